@@ -1,0 +1,62 @@
+-- Laws of the depth table. Assumes nothing.
+use mathlib.Core.Path.{_≡_, refl, ap, sym, _∙_}
+use mathlib.Core.List.{List, map}
+use Prim.Native.Nat.{ℕ, zero, suc, _≤_, _<_}
+use native.Mathlib.Omega.{arith}
+use mathlib.Core.Bool.{Bool, true, false}
+use lib.Dec.{eqb, lit≤}
+use borrow.Author.Tests.{ne-eqb, eqb-true}
+use lib.ListN.{getD, List·getD-eq-default}
+use Rattle.rle.specs.declared.depth.Depth.{Depth as CodeDepth}
+use Rattle.rle.specs.Pixels.{pick, firstPixel}
+use Rattle.rle.specs.Decode.{Depth, depths, noDepth, depthIndex, depthOf}
+use Rattle.rle.specs.Contracts.{OfDepth, depthIn}
+
+-- a fact of every row
+by-row : (P : ℕ → Type 0) → P 0 → P 1 → P 2 → P 3 → (i : ℕ) → i < 4 → P i
+by-row P a b c d zero h = a
+by-row P a b c d (suc zero) h = b
+by-row P a b c d (suc (suc zero)) h = c
+by-row P a b c d (suc (suc (suc zero))) h = d
+by-row P a b c d (suc (suc (suc (suc i)))) h = absurd (omega arith)
+
+-- the code's table, from the definition's
+unfoldable pub code-row : Depth → CodeDepth
+code-row d = record { bytes = d .bytes; white = d .white; black = d .black; format = d .format }
+
+pub rows-agree : (z : CodeDepth) (bpp i : ℕ) → i ≡ depthIndex bpp → depthIndex bpp < 4 → depthIn (getD (map code-row depths) i z) ≡ depthOf bpp
+unfolding depths noDepth depthOf code-row
+rows-agree z bpp i e h =
+    by-row (λ i. depthIn (getD (map code-row depths) i z) ≡ getD depths i noDepth) refl refl refl refl i (omega arith)
+    ∙ ap (λ (k : ℕ). getD depths k noDepth) e
+
+-- what holds of each row
+pub record Good (d : Depth) : Type 0 where
+  pub low : 1 ≤ d .bytes
+  pub high : d .bytes ≤ 3
+  pub white : OfDepth (d .bytes) (d .white)
+  pub black : OfDepth (d .bytes) (d .black)
+  pub listed : depthIndex (d .format) < 4
+
+pub depth-good : (bpp : ℕ) → depthIndex bpp < 4 → Good (depthOf bpp)
+unfolding depths noDepth depthOf firstPixel depthIndex
+depth-good bpp h =
+    by-row (λ i. Good (getD depths i noDepth))
+    (record { low = lit≤ tt; high = lit≤ tt; white = refl; black = refl; listed = lit≤ tt })
+    (record { low = lit≤ tt; high = lit≤ tt; white = refl; black = refl; listed = lit≤ tt })
+    (record { low = lit≤ tt; high = lit≤ tt; white = refl; black = refl; listed = lit≤ tt })
+    (record { low = lit≤ tt; high = lit≤ tt; white = refl; black = refl; listed = lit≤ tt })
+    (depthIndex bpp) h
+
+pub no-depth : (bpp : ℕ) → 4 ≤ depthIndex bpp → 0 ≡ depthOf bpp .bytes
+unfolding depths noDepth depthOf
+no-depth bpp h = sym (ap (λ (d : Depth). d .bytes) (List·getD-eq-default depths noDepth h))
+
+-- a format that is none of the first three
+pub last-format : (k : ℕ) → depthIndex k < 4 → (k ≡ 8 → ⊥) → (k ≡ 15 → ⊥) → (k ≡ 16 → ⊥) → 24 ≡ k
+unfolding depthIndex
+last-format k h a b c = go (eqb k 24) refl (rw (ne-eqb k 8 a, ne-eqb k 15 b, ne-eqb k 16 c) at h)
+  where
+    go : (t : Bool) → eqb k 24 ≡ t → pick t 3 4 < 4 → 24 ≡ k
+    go true e l = sym (eqb-true k 24 e)
+    go false e l = absurd (omega arith)

@@ -1,0 +1,13 @@
+pub mod Table
+pub mod Depths
+pub mod Pixels
+pub mod Painting
+pub mod Lengths
+pub mod Orders
+pub mod FirstRow
+pub mod FgBg
+pub mod Stream
+pub mod Bounds
+pub mod Calls
+pub mod Runs
+pub mod Theorems

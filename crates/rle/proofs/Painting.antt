@@ -1,0 +1,252 @@
+-- Laws of painting: one pixel, then n of them. Assumes nothing.
+use mathlib.Core.Path.{_≡_, refl, ap, sym, _∙_, subst, fun-ext}
+use mathlib.Core.List.{List, [], _∷_, _++_}
+use mathlib.Core.Bool.{Bool, true, false}
+use Prim.Native.Nat.{ℕ, zero, suc, _+_, _*_, _-_, _/_, _%_, _^_, _≤_, _<_, zero-le}
+use native.Mathlib.Nat.{add-zero, add-suc, div-one, div-div-eq-div-mul, pow-suc, mul-le-mul-right, mul-le-mul-left}
+use native.Mathlib.Numerals.{add-one}
+use native.Mathlib.Omega.{arith}
+use lib.Dec.{ltb, eqb}
+use borrow.Author.Tests.{ne-eqb}
+use lib.Bits.{bitXor}
+use lib.ListN.{length, getD, drop}
+use lib.Seq.{drop-drop}
+use Rattle.rle.specs.declared.paint.Mode.{Mode}
+use Rattle.rle.specs.declared.paint.Mode.the-variants.{Solid, Above, AboveXor}
+use Rattle.rle.specs.declared.paint.Ink.{Ink as CodeInk}
+use Rattle.rle.specs.Pixels.{Pixel, pick, firstPixel, pixelAt, xorPixel}
+use Rattle.rle.specs.Decode.{Ink, solid, color, paint, pixelAbove, insertInk, maskInk, ditherInk}
+use Rattle.rle.specs.Contracts.{OfDepth, pixelsOf, storePixel, Paintable, PaintedOne, Painted, reach, inkOf, solidInk}
+use Rattle.rle.proofs.Pixels.{first-pixel-cong, getD-first-pixel, length-first-pixel, length-pixelsOf, getD-pixelsOf, store-before, store-there, store-after}
+
+-- ---- colors have their unused bytes zero
+
+pub of-depth : (D : ℕ) (xs : List ℕ) → 1 ≤ D → D ≤ 3 → OfDepth D (firstPixel D xs)
+of-depth D xs low high = first-pixel-cong D (firstPixel D xs) xs low (λ i b. getD-first-pixel D xs i b high)
+
+xor-pick : (t : Bool) (a b : ℕ) → pick t a 0 ≡ a → pick t b 0 ≡ b → pick t (bitXor a b) 0 ≡ bitXor a b
+xor-pick true a b p q = refl
+xor-pick false a b p q = λ i. bitXor (p i) (q i)
+
+of-depth-xor : (D : ℕ) (a b : Pixel) → OfDepth D a → OfDepth D b → OfDepth D (xorPixel a b)
+unfolding firstPixel xorPixel
+of-depth-xor D a b p q = λ i.
+    bitXor (getD a 0 0) (getD b 0 0)
+    ∷ xor-pick (ltb 1 D) (getD a 1 0) (getD b 1 0) (ap (λ (l : Pixel). getD l 1 0) p) (ap (λ (l : Pixel). getD l 1 0) q) i
+    ∷ xor-pick (ltb 2 D) (getD a 2 0) (getD b 2 0) (ap (λ (l : Pixel). getD l 2 0) p) (ap (λ (l : Pixel). getD l 2 0) q) i
+    ∷ []
+
+-- ---- one pixel
+
+-- the pixel above pixel k, in the bytes
+above-is : (D w k : ℕ) (xs : List ℕ) → 1 ≤ w → w ≤ k → pixelAbove w (pixelsOf D k xs) ≡ pixelAt D xs (k - w)
+unfolding pixelAbove
+above-is D w k xs h b = rw length-pixelsOf (getD-pixelsOf D k xs (k - w) (0 ∷ 0 ∷ 0 ∷ []) (omega arith))
+
+pub back-fits : (D w k : ℕ) → (k - w) * D + D ≤ (k + 1) * D
+back-fits D w k = omega (arith, mul-le-mul-right {m = k - w} {n = k} D (omega arith))
+
+-- a mode that looks at the row above finds it there
+pub far : {mode seen : Mode} (w k : ℕ) → mode ≡ seen → reach mode w ≤ k → reach seen w ≤ k
+far w k e h = subst (λ (m : Mode). reach m w ≤ k) e h
+
+painted-one-of : (D w k : ℕ) (xs ys q : List ℕ) (ink : Ink) → 1 ≤ D → D ≤ 3 → (k + 1) * D ≤ length xs
+    → OfDepth D q → q ≡ color w (pixelsOf D k xs) ink → ys ≡ storePixel D xs (k * D) q → PaintedOne D w ink k xs ys
+unfolding pixelsOf
+painted-one-of D w k xs ys q ink low high fits of is e =
+    let next : (k + 1) * D ≡ k * D + D = omega arith in
+    let long : D ≤ length q = subst (λ (l : List ℕ). D ≤ length l) of (rw length-first-pixel high) in
+    record {
+      pixels =
+          rw (e, add-one)
+          (λ j. store-before D k xs q low (omega arith) long j
+          ++ ((store-there D k xs q low (omega arith) long ∙ of ∙ is) j ∷ []));
+      rest = rw (e, next) (store-after D k xs q low (omega arith) long);
+    }
+
+-- the three ways of `paint_pixel`
+module _ (D w k : ℕ) (xs ys : List ℕ) (ink : CodeInk) (pre : Paintable D w k 1 xs ink) where
+  pub one-solid : ink .mode ≡ Solid → ys ≡ storePixel D xs (k * D) (ink .pixel) → PaintedOne D w (inkOf ink) k xs ys
+  unfolding color
+  one-solid m e = painted-one-of D w k xs ys (ink .pixel) (inkOf ink) (pre .low) (pre .high) (pre .fits) (pre .pixel) (rw m) e
+
+  pub one-above : (q : Pixel) → ink .mode ≡ Above → q ≡ firstPixel D (drop ((k - w) * D) xs) → ys ≡ storePixel D xs (k * D) q
+      → PaintedOne D w (inkOf ink) k xs ys
+  unfolding color pixelAt
+  one-above q m r e =
+      painted-one-of D w k xs ys q (inkOf ink) (pre .low) (pre .high) (pre .fits)
+      (rw r (of-depth D (drop ((k - w) * D) xs) (pre .low) (pre .high)))
+      (rw m (r ∙ sym (above-is D w k xs (pre .wide) (far w k m (pre .row)))))
+      e
+
+  pub one-xor : (q x : Pixel) → ink .mode ≡ AboveXor → q ≡ firstPixel D (drop ((k - w) * D) xs) → x ≡ xorPixel q (ink .pixel)
+      → ys ≡ storePixel D xs (k * D) x → PaintedOne D w (inkOf ink) k xs ys
+  unfolding color pixelAt
+  one-xor q x m r o e =
+      painted-one-of D w k xs ys x (inkOf ink) (pre .low) (pre .high) (pre .fits)
+      (rw o (of-depth-xor D q (ink .pixel) (rw r (of-depth D (drop ((k - w) * D) xs) (pre .low) (pre .high))) (pre .pixel)))
+      (rw m (o ∙ ap (λ (l : Pixel). xorPixel l (ink .pixel)) (r ∙ sym (above-is D w k xs (pre .wide) (far w k m (pre .row))))))
+      e
+
+-- ---- n pixels
+
+pub painted-none : {D w k : ℕ} {ink : ℕ → Ink} {xs : List ℕ} → Painted D w ink k 0 xs xs
+unfolding paint
+painted-none = record { pixels = rw add-zero; rest = refl }
+
+pub painted-more : (D w k n : ℕ) (ink : ℕ → Ink) (xs ys zs : List ℕ) → Painted D w ink k n xs ys
+    → PaintedOne D w (ink n) (k + n) ys zs → Painted D w ink k (n + 1) xs zs
+unfolding paint
+painted-more D w k n ink xs ys zs p o =
+    let e : k + (n + 1) ≡ k + n + 1 = omega arith in
+    let m : (k + (n + 1)) * D ≡ (k + n) * D + D = omega arith in
+    let m′ : (k + n + 1) * D ≡ (k + n) * D + D = omega arith in
+    record {
+      pixels = rw (e, o .pixels, p .pixels, add-one);
+      rest =
+          rw m
+          ((rw m′ at (o .rest))
+          ∙ sym (drop-drop D ((k + n) * D) ys)
+          ∙ ap (λ (l : List ℕ). drop D l) (p .rest)
+          ∙ drop-drop D ((k + n) * D) xs);
+    }
+
+pub painted-at : {D w k i n : ℕ} {ink : ℕ → Ink} {xs ys : List ℕ} → i ≡ n → Painted D w ink k i xs ys → Painted D w ink k n xs ys
+painted-at {D} {w} {k} {i} {n} {ink} {xs} {ys} e p = subst (λ (m : ℕ). Painted D w ink k m xs ys) e p
+
+-- other inks
+pub one-as : {D w k : ℕ} {i j : Ink} {xs ys : List ℕ} → i ≡ j → PaintedOne D w i k xs ys → PaintedOne D w j k xs ys
+one-as {D} {w} {k} {i} {j} {xs} {ys} e p = subst (λ (x : Ink). PaintedOne D w x k xs ys) e p
+
+pub painted-as : {D w k n : ℕ} {i j : ℕ → Ink} {xs ys : List ℕ} → ((m : ℕ) → i m ≡ j m) → Painted D w i k n xs ys → Painted D w j k n xs ys
+painted-as {D} {w} {k} {n} {i} {j} {xs} {ys} e p = subst (λ (x : ℕ → Ink). Painted D w x k n xs ys) (fun-ext e) p
+
+paint-add : (w : ℕ) (ink : ℕ → Ink) (m n : ℕ) (ps : List Pixel) → paint w ink (m + n) ps ≡ paint w (λ j. ink (m + j)) n (paint w ink m ps)
+unfolding paint
+paint-add w ink m zero ps = rw add-zero
+paint-add w ink m (suc n) ps =
+    rw add-suc (ap (λ (r : List Pixel). r ++ (color w r (ink (m + n)) ∷ [])) (paint-add w ink m n ps))
+
+pub painted-join : (D w k m n : ℕ) (ink : ℕ → Ink) (xs ys zs : List ℕ) → Painted D w ink k m xs ys
+    → Painted D w (λ j. ink (m + j)) (k + m) n ys zs → Painted D w ink k (m + n) xs zs
+painted-join D w k m n ink xs ys zs p q =
+    let e : k + (m + n) ≡ k + m + n = omega arith in
+    let b : (k + m + n) * D ≡ (k + m) * D + n * D = omega arith in
+    record {
+      pixels = rw (e, q .pixels, p .pixels, paint-add);
+      rest =
+          rw (e, b)
+          ((rw b at (q .rest))
+          ∙ sym (drop-drop (n * D) ((k + m) * D) ys)
+          ∙ ap (λ (l : List ℕ). drop (n * D) l) (p .rest)
+          ∙ drop-drop (n * D) ((k + m) * D) xs);
+    }
+
+pub painted-one : (D w k : ℕ) (ink : ℕ → Ink) (xs ys : List ℕ) → PaintedOne D w (ink 0) k xs ys → Painted D w ink k 1 xs ys
+unfolding paint
+painted-one D w k ink xs ys o = record { pixels = o .pixels; rest = o .rest }
+
+-- ---- where pixels can be painted
+
+pub at-most-bytes : (D n : ℕ) → 1 ≤ D → n ≤ n * D
+at-most-bytes D n h = omega (arith, mul-le-mul-left {m = 1} {n = D} n h)
+
+-- n of the m pixels, from number i of them on
+pub part : {D w k m : ℕ} {xs ys : List ℕ} {ink : CodeInk} (n i : ℕ) → Paintable D w k m xs ink → i + n ≤ m → length ys ≡ length xs
+    → Paintable D w (k + i) n ys ink
+part {D} {w} {k} {m} n i r h e =
+    record {
+      low = r .low;
+      high = r .high;
+      wide = r .wide;
+      fits = omega (arith, r .fits, mul-le-mul-right {m = k + i + n} {n = k + m} D (omega arith));
+      row = omega (arith, r .row);
+      pixel = r .pixel;
+    }
+
+-- the first n of the m pixels
+pub front : {D w k m : ℕ} {xs : List ℕ} {ink : CodeInk} (n : ℕ) → Paintable D w k m xs ink → n ≤ m → Paintable D w k n xs ink
+front {D} {w} {k} {m} n r h =
+    record {
+      low = r .low;
+      high = r .high;
+      wide = r .wide;
+      fits = omega (arith, r .fits, mul-le-mul-right {m = k + n} {n = k + m} D (omega arith));
+      row = r .row;
+      pixel = r .pixel;
+    }
+
+pub with-ink : {D w k n : ℕ} {xs : List ℕ} {i j : CodeInk} → i ≡ j → Paintable D w k n xs j → Paintable D w k n xs i
+with-ink {D} {w} {k} {n} {xs} e r = subst (λ (x : CodeInk). Paintable D w k n xs x) (sym e) r
+
+pub with-color : {D w k n : ℕ} {xs : List ℕ} {p q : Pixel} → OfDepth D q → Paintable D w k n xs (solidInk p) → Paintable D w k n xs (solidInk q)
+with-color e r = record { low = r .low; high = r .high; wide = r .wide; fits = r .fits; row = zero-le; pixel = e }
+
+-- ---- a background run
+
+pub insert-none : {insert : Bool} (fg bg : Ink) (j : ℕ) → insert ≡ false → bg ≡ insertInk insert fg bg j
+unfolding insertInk
+insert-none fg bg j e = rw e
+
+pub insert-first : {insert : Bool} (fg bg : Ink) → insert ≡ true → fg ≡ insertInk insert fg bg 0
+unfolding insertInk
+insert-first fg bg e = rw e
+
+pub insert-later : (insert : Bool) (fg bg : Ink) (j : ℕ) → bg ≡ insertInk insert fg bg (1 + j)
+unfolding insertInk
+insert-later true fg bg j = rw (ne-eqb (1 + j) 0 (λ e. omega arith))
+insert-later false fg bg j = refl
+
+-- ---- masks and turns
+
+-- a mask's bits, one after the other
+pub mask-none : (m : ℕ) → m ≡ m / 2 ^ 0
+mask-none m = sym (div-one m)
+
+pub mask-more : (m a i : ℕ) → a ≡ m / 2 ^ i → a / 2 ≡ m / 2 ^ (i + 1)
+mask-more m a i e = rw (e, add-one, pow-suc) (div-div-eq-div-mul m (2 ^ i) 2)
+
+pub pick-ink : (t : Bool) (i j : CodeInk) → inkOf (pick t i j) ≡ pick t (inkOf i) (inkOf j)
+pick-ink true i j = refl
+pick-ink false i j = refl
+
+pub mask-ink : {x : CodeInk} (fg bg : CodeInk) (m a i : ℕ) → x ≡ pick (eqb (a % 2) 1) fg bg → a ≡ m / 2 ^ i
+    → inkOf x ≡ maskInk (inkOf fg) (inkOf bg) m i
+unfolding maskInk
+mask-ink fg bg m a i x e = ap (λ (y : CodeInk). inkOf y) x ∙ pick-ink (eqb (a % 2) 1) fg bg ∙ rw e
+
+-- either of two inks can be painted where both can
+pub either : {D w k n : ℕ} {xs : List ℕ} {i j : CodeInk} (t : Bool) → Paintable D w k n xs i → Paintable D w k n xs j
+    → Paintable D w k n xs (pick t i j)
+either true a b = a
+either false a b = b
+
+pub turn-pixel : (D : ℕ) (a b : Pixel) (t : Bool) → OfDepth D a → OfDepth D b → OfDepth D (pick t a b)
+turn-pixel D a b true p q = p
+turn-pixel D a b false p q = q
+
+pub turn-ink : {x : CodeInk} (a b : Pixel) (j : ℕ) → x ≡ solidInk (pick (eqb (j % 2) 0) a b) → inkOf x ≡ ditherInk a b j
+unfolding ditherInk
+turn-ink a b j e = ap (λ (y : CodeInk). inkOf y) e
+
+pub image-ink : {x : CodeInk} (D : ℕ) (src : List ℕ) (a j : ℕ) (p : Pixel) → x ≡ solidInk p → p ≡ firstPixel D (drop (a + j * D) src)
+    → inkOf x ≡ solid (pixelAt D (drop a src) j)
+unfolding pixelAt
+image-ink D src a j p x e =
+    ap (λ (y : CodeInk). inkOf y) x ∙ ap solid (e ∙ ap (λ (l : List ℕ). firstPixel D l) (sym (drop-drop (j * D) a src)))
+
+pub image-fits : (D n j : ℕ) → j < n → j * D + D ≤ n * D
+image-fits D n j h = omega (arith, mul-le-mul-right {m = j + 1} {n = n} D (omega arith))
+
+-- pixel i of the n pixels from number k on, in one color
+pub solid-part : {D w i : ℕ} {p : Pixel} (k n : ℕ) (xs ys : List ℕ) → 1 ≤ D → D ≤ 3 → 1 ≤ w → (k + n) * D ≤ length xs → i < n → length ys ≡ length xs
+    → OfDepth D p → Paintable D w (k + i) 1 ys (solidInk p)
+solid-part {D} {w} {i} k n xs ys low high wide fits h e of =
+    record {
+      low = low;
+      high = high;
+      wide = wide;
+      fits = omega (arith, mul-le-mul-right {m = k + i + 1} {n = k + n} D (omega arith));
+      row = zero-le;
+      pixel = of;
+    }

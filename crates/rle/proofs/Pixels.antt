@@ -1,0 +1,173 @@
+-- Laws of pixels in byte lists, for every number of bytes D. Assumes nothing.
+use mathlib.Core.Path.{_≡_, refl, ap, sym, _∙_}
+use mathlib.Core.List.{List, [], _∷_, _++_, append-assoc, append-nil}
+use mathlib.Core.Bool.{Bool, true, false}
+use Prim.Native.Nat.{ℕ, zero, suc, _+_, _*_, _-_, _≤_, _<_}
+use native.Mathlib.Nat.{add-zero, suc-mul, zero-mul, le-refl}
+use native.Mathlib.Numerals.{add-one, add-two}
+use native.Mathlib.Decide.{decLt}
+use native.Mathlib.Omega.{arith}
+use lib.Dec.{ltb}
+use lib.ListN.{length, getD, take, drop, set, length-append, length-take, length-drop, List·getD-append}
+use lib.Seq.{getD-drop, getD-take, take-at, drop-at, sets, sets-eq, take-add, length-take-le, ext-getD, getD-at, paste, drop-paste}
+use borrow.Author.Tests.{ltb-true, lt-ltb}
+use Rattle.rle.specs.Pixels.{Pixel, pick, firstPixel, pixelAt, bytesOf}
+use Rattle.rle.specs.Contracts.{pixelsOf, storePixel}
+
+-- ---- a pixel sees only its own bytes
+
+pick-cong : (t : Bool) (x y : ℕ) → (t ≡ true → x ≡ y) → pick t x 0 ≡ pick t y 0
+pick-cong true x y h = h refl
+pick-cong false x y h = refl
+
+pub first-pixel-cong : (D : ℕ) (xs ys : List ℕ) → 1 ≤ D → ((i : ℕ) → i < D → getD xs i 0 ≡ getD ys i 0) → firstPixel D xs ≡ firstPixel D ys
+unfolding firstPixel
+first-pixel-cong D xs ys h e = λ j.
+    e 0 h j
+    ∷ pick-cong (ltb 1 D) (getD xs 1 0) (getD ys 1 0) (λ t. e 1 (ltb-true 1 D t)) j
+    ∷ pick-cong (ltb 2 D) (getD xs 2 0) (getD ys 2 0) (λ t. e 2 (ltb-true 2 D t)) j
+    ∷ []
+
+pub getD-first-pixel : (D : ℕ) (xs : List ℕ) (i : ℕ) → i < D → D ≤ 3 → getD (firstPixel D xs) i 0 ≡ getD xs i 0
+unfolding firstPixel
+getD-first-pixel D xs zero h k = refl
+getD-first-pixel D xs (suc zero) h k = simp (lt-ltb 1 D h)
+getD-first-pixel D xs (suc (suc zero)) h k = simp (lt-ltb 2 D h)
+getD-first-pixel D xs (suc (suc (suc i))) h k = absurd (omega arith)
+
+-- the bytes of a pixel as the code reads them
+module _ (s : List ℕ) (at : ℕ) where
+  pub first-pixel-1 : (D : ℕ) → D ≡ 1 → (getD s at 0 ∷ 0 ∷ 0 ∷ []) ≡ firstPixel D (drop at s)
+  unfolding firstPixel
+  first-pixel-1 D e = rw e (simp (getD-drop, add-zero))
+
+  pub first-pixel-2 : (D : ℕ) → D ≡ 2 → (getD s at 0 ∷ getD s (at + 1) 0 ∷ 0 ∷ []) ≡ firstPixel D (drop at s)
+  unfolding firstPixel
+  first-pixel-2 D e = rw e (simp (getD-drop, add-zero))
+
+  pub first-pixel-3 : (D : ℕ) → D ≡ 3 → (getD s at 0 ∷ getD s (at + 1) 0 ∷ getD s (at + 2) 0 ∷ []) ≡ firstPixel D (drop at s)
+  unfolding firstPixel
+  first-pixel-3 D e = rw e (simp (getD-drop, add-zero))
+
+-- ---- the first n pixels
+
+pub length-pixelsOf : (D n : ℕ) (xs : List ℕ) → length (pixelsOf D n xs) ≡ n
+unfolding pixelsOf
+length-pixelsOf D zero xs = refl
+length-pixelsOf D (suc n) xs =
+    length-append (pixelsOf D n xs) (pixelAt D xs n ∷ []) ∙ ap (λ (m : ℕ). m + 1) (length-pixelsOf D n xs) ∙ add-one n
+
+pub getD-pixelsOf : (D n : ℕ) (xs : List ℕ) (k : ℕ) (z : Pixel) → k < n → getD (pixelsOf D n xs) k z ≡ pixelAt D xs k
+unfolding pixelsOf
+getD-pixelsOf D zero xs k z h = absurd (omega arith)
+getD-pixelsOf D (suc n) xs k z h =
+    elim (decLt k n) [
+      | yes b ↦ List·getD-append (pixelsOf D n xs) (pixelAt D xs n ∷ []) z k (rw length-pixelsOf b) ∙ getD-pixelsOf D n xs k z b
+      | no b ↦
+          let e : k ≡ n = omega arith in
+          rw e (getD-at (pixelsOf D n xs) (pixelAt D xs n) [] z n (length-pixelsOf D n xs))
+    ]
+
+-- ---- a pixel is stored
+
+-- an array of three
+take-1 : (p : List ℕ) → length p ≡ 3 → take 1 p ≡ getD p 0 0 ∷ []
+take-1 [] e = absurd (omega arith)
+take-1 (x ∷ xs) e = refl
+
+take-2 : (p : List ℕ) → length p ≡ 3 → take 2 p ≡ getD p 0 0 ∷ getD p 1 0 ∷ []
+take-2 [] e = absurd (omega arith)
+take-2 (x ∷ []) e = absurd (omega arith)
+take-2 (x ∷ y ∷ xs) e = refl
+
+take-3 : (p : List ℕ) → length p ≡ 3 → take 3 p ≡ getD p 0 0 ∷ getD p 1 0 ∷ getD p 2 0 ∷ []
+take-3 [] e = absurd (omega arith)
+take-3 (x ∷ []) e = absurd (omega arith)
+take-3 (x ∷ y ∷ []) e = absurd (omega arith)
+take-3 (x ∷ y ∷ z ∷ xs) e = refl
+
+module _ (xs p : List ℕ) (at D : ℕ) where
+  pub store-1 : D ≡ 1 → length p ≡ 3 → at + D ≤ length xs → set xs at (getD p 0 0) ≡ storePixel D xs at p
+  unfolding storePixel
+  store-1 e l h = rw (e, take-1 p l) (sets-eq (getD p 0 0 ∷ []) xs at (omega arith))
+
+  pub store-2 : D ≡ 2 → length p ≡ 3 → at + D ≤ length xs → set (set xs at (getD p 0 0)) (at + 1) (getD p 1 0) ≡ storePixel D xs at p
+  unfolding storePixel
+  store-2 e l h = rw (e, take-2 p l, add-one at) (sets-eq (getD p 0 0 ∷ getD p 1 0 ∷ []) xs at (omega arith))
+
+  pub store-3 : D ≡ 3 → length p ≡ 3 → at + D ≤ length xs → set (set (set xs at (getD p 0 0)) (at + 1) (getD p 1 0)) (at + 2) (getD p 2 0) ≡ storePixel D xs at p
+  unfolding storePixel
+  store-3 e l h = rw (e, take-3 p l, add-one at, add-two at) (sets-eq (getD p 0 0 ∷ getD p 1 0 ∷ getD p 2 0 ∷ []) xs at (omega arith))
+
+pub pixelAt-cong : (D k : ℕ) (xs ys : List ℕ) → 1 ≤ D → ((i : ℕ) → i < D → getD xs (k * D + i) 0 ≡ getD ys (k * D + i) 0) → pixelAt D xs k ≡ pixelAt D ys k
+unfolding pixelAt
+pixelAt-cong D k xs ys h e =
+    first-pixel-cong D (drop (k * D) xs) (drop (k * D) ys) h (λ i b. simp getD-drop (e i b))
+
+-- the first n pixels see only the first n * D bytes
+pub pixels-take : (D n m : ℕ) (xs : List ℕ) → 1 ≤ D → n * D ≤ m → pixelsOf D n (take m xs) ≡ pixelsOf D n xs
+unfolding pixelsOf
+pixels-take D zero m xs h b = refl
+pixels-take D (suc n) m xs h b =
+    let b′ : n * D + D ≤ m = rw suc-mul at b in
+    λ j. pixels-take D n m xs h (omega arith) j
+    ++ (pixelAt-cong D n (take m xs) xs h (λ i c. getD-take m xs (n * D + i) 0 (omega arith)) j ∷ [])
+
+pub pixels-cong : (D n : ℕ) (xs ys : List ℕ) → 1 ≤ D → take (n * D) xs ≡ take (n * D) ys → pixelsOf D n xs ≡ pixelsOf D n ys
+pixels-cong D n xs ys h e =
+    sym (pixels-take D n (n * D) xs h (le-refl (n * D)))
+    ∙ ap (λ (l : List ℕ). pixelsOf D n l) e
+    ∙ pixels-take D n (n * D) ys h (le-refl (n * D))
+
+-- what a store of the pixel q as pixel k does
+module _ (D k : ℕ) (xs q : List ℕ) (low : 1 ≤ D) (fits : k * D + D ≤ length xs) (megaMegaLength : D ≤ length q) where
+  store-take : take (k * D) (storePixel D xs (k * D) q) ≡ take (k * D) xs
+  unfolding storePixel
+  store-take =
+      rw append-assoc
+      (take-at (take (k * D) xs) (take D q ++ drop (k * D + D) xs) (k * D) (length-take-le (k * D) xs (omega arith)))
+
+  pub store-before : pixelsOf D k (storePixel D xs (k * D) q) ≡ pixelsOf D k xs
+  store-before = pixels-cong D k (storePixel D xs (k * D) q) xs low store-take
+
+  pub store-there : pixelAt D (storePixel D xs (k * D) q) k ≡ firstPixel D q
+  unfolding storePixel pixelAt
+  store-there =
+      rw (append-assoc, drop-at (take (k * D) xs) (take D q ++ drop (k * D + D) xs) (k * D) (length-take-le (k * D) xs (omega arith)))
+      (first-pixel-cong D (take D q ++ drop (k * D + D) xs) q low
+      (λ i b.
+      List·getD-append (take D q) (drop (k * D + D) xs) 0 i (rw (length-take-le D q megaMegaLength) b)
+      ∙ getD-take D q i 0 b))
+
+  pub store-after : drop (k * D + D) (storePixel D xs (k * D) q) ≡ drop (k * D + D) xs
+  unfolding storePixel
+  store-after = drop-paste xs (k * D) q D (omega arith) megaMegaLength
+
+-- the law of bytes
+pub bytesOf-append : (D : ℕ) (ps qs : List Pixel) → bytesOf D (ps ++ qs) ≡ bytesOf D ps ++ bytesOf D qs
+unfolding bytesOf
+bytesOf-append D [] qs = refl
+bytesOf-append D (p ∷ ps) qs = ap (λ (l : List ℕ). take D p ++ l) (bytesOf-append D ps qs) ∙ sym (append-assoc (take D p) (bytesOf D ps) (bytesOf D qs))
+
+pub length-first-pixel : (D : ℕ) (xs : List ℕ) → length (firstPixel D xs) ≡ 3
+unfolding firstPixel
+length-first-pixel D xs = refl
+
+take-first-pixel : (D : ℕ) (xs : List ℕ) → D ≤ 3 → D ≤ length xs → take D (firstPixel D xs) ≡ take D xs
+take-first-pixel D xs h b =
+    let e : length (take D (firstPixel D xs)) ≡ D = length-take-le D (firstPixel D xs) (rw length-first-pixel h) in
+    ext-getD 0 (take D (firstPixel D xs)) (take D xs) (e ∙ sym (length-take-le D xs b))
+    (λ i c.
+    let c′ : i < D = rw e at c in
+    getD-take D (firstPixel D xs) i 0 c′ ∙ getD-first-pixel D xs i c′ h ∙ sym (getD-take D xs i 0 c′))
+
+pub bytes-pixels : (D n : ℕ) (xs : List ℕ) → D ≤ 3 → n * D ≤ length xs → bytesOf D (pixelsOf D n xs) ≡ take (n * D) xs
+unfolding pixelsOf bytesOf pixelAt
+bytes-pixels D zero xs h b = rw zero-mul
+bytes-pixels D (suc n) xs h b =
+    let b′ : n * D + D ≤ length xs = rw suc-mul at b in
+    bytesOf-append D (pixelsOf D n xs) (pixelAt D xs n ∷ [])
+    ∙ (λ j. bytes-pixels D n xs h (omega arith) j ++ (take-first-pixel D (drop (n * D) xs) h (rw length-drop (omega arith)) j ++ []))
+    ∙ ap (λ (l : List ℕ). take (n * D) xs ++ l) (append-nil (take D (drop (n * D) xs)))
+    ∙ sym (take-add (n * D) D xs)
+    ∙ ap (λ (m : ℕ). take m xs) (sym (suc-mul n D))

@@ -1,0 +1,74 @@
+-- The guarantees of specs/Guarantees.antt, from the contract of `decompress` alone. Assumes nothing.
+use mathlib.Core.Path.{_≡_, refl, ap, sym, _∙_, subst}
+use mathlib.Core.List.{List}
+use Prim.Native.Nat.{ℕ, _*_}
+use lib.ListN.{length, drop}
+use lib.Seq.{take-at, drop-at}
+use lib.Dec.{eqb}
+use borrow.Author.Tests.{le-ltb}
+use Rattle.rle.specs.declared.report.Report.{Report}
+use Rattle.rle.specs.declared.report.Outcome.{Outcome}
+use Rattle.rle.specs.declared.report.Outcome.the-variants.{Ok, Err}
+use Rattle.rle.specs.declared.report.RleError.the-variants.{InvalidBpp, EmptyImage, DimensionsTooLarge, BufferTooShort, BadOrderCode, NotEnoughBytes, InvalidImageSize, UnexpectedZeroLength}
+use Rattle.rle.specs.Pixels.{bytesOf}
+use Rattle.rle.specs.Orders.{Refusal}
+use Rattle.rle.specs.Decode.{Checked, away, fit, checked, withSpace, Result, ofChecked, result, resultIn}
+use Rattle.rle.specs.Report.{Decompresses, refusalIn}
+use Rattle.rle.specs.Guarantees.{spaceFor, HasSpace, Defined, NoOldByte, isOk}
+
+space-is : (given : ℕ) (c : Checked) → spaceFor given c → withSpace given c ≡ c
+unfolding withSpace
+space-is given (away r) h = refl
+space-is given (fit f k) h = rw (le-ltb given (f .total * f .bytes) h)
+
+pub defined : (src : List ℕ) (bpp w h : ℕ) (before after : List ℕ) (r : Report)
+    → Decompresses src before after r (resultIn (length before) src bpp w h) → HasSpace before bpp w h → Defined src bpp w h before after r
+unfolding resultIn result
+defined src bpp w h before after r d space =
+    let e : Decompresses src before after r (result src bpp w h) =
+    subst (λ (x : Result). Decompresses src before after r x) (ap (λ (c : Checked). ofChecked src c) (space-is (length before) (checked bpp w h) space)) d in
+    record {
+      refusal = e .refusal;
+      format = e .format;
+      pixels = e .pixels;
+      orders = e .orders;
+      painted = rw (e .pixels, e .target) (take-at _ _ _ (e .painted));
+      kept =
+          rw (e .pixels)
+          (ap (λ (l : List ℕ). drop (length (result src bpp w h .painted) * result src bpp w h .bytes) l) (e .target)
+          ∙ drop-at (bytesOf (result src bpp w h .bytes) (result src bpp w h .painted)) _ _ (e .painted));
+      counted = e .counted;
+      bounded = e .bounded;
+    }
+
+-- no old byte shows
+pub no-old-byte : (src : List ℕ) (bpp w h : ℕ) (before₁ after₁ : List ℕ) (r₁ : Report) (before₂ after₂ : List ℕ) (r₂ : Report)
+    → Decompresses src before₁ after₁ r₁ (resultIn (length before₁) src bpp w h) → Decompresses src before₂ after₂ r₂ (resultIn (length before₂) src bpp w h)
+    → HasSpace before₁ bpp w h → HasSpace before₂ bpp w h → NoOldByte src bpp w h before₁ after₁ r₁ before₂ after₂ r₂
+no-old-byte src bpp w h before₁ after₁ r₁ before₂ after₂ r₂ d₁ d₂ s₁ s₂ =
+    let a = defined src bpp w h before₁ after₁ r₁ d₁ s₁ in
+    let b = defined src bpp w h before₂ after₂ r₂ d₂ s₂ in
+    record {
+      refusal = a .refusal ∙ sym (b .refusal);
+      format = a .format ∙ sym (b .format);
+      pixels = a .pixels ∙ sym (b .pixels);
+      orders = a .orders ∙ sym (b .orders);
+      painted = a .painted ∙ sym (b .painted);
+      first = a;
+      second = b;
+    }
+
+-- a call answers Ok exactly where the definition refuses nothing
+pub accepts : (src before after : List ℕ) (r : Report) (e : Result) → Decompresses src before after r e → isOk (r .outcome) ≡ eqb (e .refusal .number) 0
+accepts src before after r e d = go (r .outcome) ∙ ap (λ (x : Refusal). eqb (x .number) 0) (d .refusal)
+  where
+    go : (o : Outcome) → isOk o ≡ eqb (refusalIn o .number) 0
+    go (Ok k) = refl
+    go (Err (InvalidBpp b)) = refl
+    go (Err EmptyImage) = refl
+    go (Err (DimensionsTooLarge w h)) = refl
+    go (Err (BufferTooShort n g)) = refl
+    go (Err BadOrderCode) = refl
+    go (Err (NotEnoughBytes n a)) = refl
+    go (Err (InvalidImageSize m n)) = refl
+    go (Err UnexpectedZeroLength) = refl

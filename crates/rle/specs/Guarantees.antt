@@ -1,0 +1,46 @@
+-- What the contract of `decompress` amounts to, over all streams, depths, sizes and targets. The theorems are in
+-- proofs/Theorems.antt; the crate two_targets has the second of them as the contract of two calls.
+use mathlib.Core.Path.{_≡_}
+use mathlib.Core.List.{List}
+use mathlib.Core.Bool.{Bool, true, false}
+use Prim.Native.Nat.{ℕ, _*_, _≤_}
+use lib.ListN.{length, take, drop}
+use Rattle.rle.specs.declared.report.Report.{Report}
+use Rattle.rle.specs.declared.report.Outcome.{Outcome}
+use Rattle.rle.specs.declared.report.Outcome.the-variants.{Ok, Err}
+use Rattle.rle.specs.Pixels.{bytesOf}
+use Rattle.rle.specs.Decode.{Checked, away, fit, checked, result}
+use Rattle.rle.specs.Report.{refusalIn, formatIn}
+
+-- a target of `given` bytes has space for the picture; where refusal 1, 2 or 3 comes, every target has
+abbrev pub spaceFor : ℕ → Checked → Type 0
+spaceFor given (away r) = Unit {0}
+spaceFor given (fit f k) = f .total * f .bytes ≤ given
+
+abbrev pub HasSpace : List ℕ → ℕ → ℕ → ℕ → Type 0
+HasSpace target bpp w h = spaceFor (length target) (checked bpp w h)
+
+-- one call: report and painted bytes are those of the definition, which sees no target, and the target keeps its own bytes past them
+pub record Defined (src : List ℕ) (bpp w h : ℕ) (before after : List ℕ) (r : Report) : Type 0 where
+  pub refusal : refusalIn (r .outcome) ≡ result src bpp w h .refusal
+  pub format : formatIn (r .outcome) ≡ result src bpp w h .format
+  pub pixels : r .pixels ≡ length (result src bpp w h .painted)
+  pub orders : r .orders ≡ result src bpp w h .orders
+  pub painted : take (r .pixels * result src bpp w h .bytes) after ≡ bytesOf (result src bpp w h .bytes) (result src bpp w h .painted)
+  pub kept : drop (r .pixels * result src bpp w h .bytes) after ≡ drop (r .pixels * result src bpp w h .bytes) before
+  pub counted : r .orders ≤ r .pixels
+  pub bounded : r .pixels ≤ 26214 * length src
+
+-- two calls with one stream, depth and size into any two targets with space: no old byte shows
+pub record NoOldByte (src : List ℕ) (bpp w h : ℕ) (before₁ after₁ : List ℕ) (r₁ : Report) (before₂ after₂ : List ℕ) (r₂ : Report) : Type 0 where
+  pub refusal : refusalIn (r₁ .outcome) ≡ refusalIn (r₂ .outcome)
+  pub format : formatIn (r₁ .outcome) ≡ formatIn (r₂ .outcome)
+  pub pixels : r₁ .pixels ≡ r₂ .pixels
+  pub orders : r₁ .orders ≡ r₂ .orders
+  pub painted : take (r₁ .pixels * result src bpp w h .bytes) after₁ ≡ take (r₂ .pixels * result src bpp w h .bytes) after₂
+  pub first : Defined src bpp w h before₁ after₁ r₁
+  pub second : Defined src bpp w h before₂ after₂ r₂
+
+abbrev pub isOk : Outcome → Bool
+isOk (Ok k) = true
+isOk (Err e) = false

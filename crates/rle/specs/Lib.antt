@@ -1,0 +1,8 @@
+pub mod Pixels
+pub mod Orders
+pub mod Decode
+pub mod Report
+pub mod Codes
+pub mod Contracts
+pub mod Tiles
+pub mod Guarantees

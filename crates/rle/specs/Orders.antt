@@ -1,0 +1,141 @@
+-- An order's start in the stream: the header byte's kind, and the run length (MS-RDPBCGR 2.2.9.1.1.3.1.2.4). Bytes alone: no
+-- picture and no state.
+use mathlib.Core.List.{List, [], _∷_}
+use mathlib.Core.Bool.{Bool, true, false}
+use Prim.Native.Nat.{ℕ, suc, _+_, _*_, _%_}
+use lib.Dec.{ltb, leb, eqb}
+use lib.ListN.{length, getD, drop}
+use Rattle.rle.specs.Pixels.{pick}
+
+-- a refusal's number and its two values
+--   1 bpp not in the depth table (bpp), 2 width or height 0, 3 width or height above 8,192 (width, height),
+--   4 target too short (bytes needed, given), 5 the header is no order, 6 stream too short (bytes expected, left),
+--   7 order longer than the picture (picture bytes left, bytes required), 8 a two-byte length of 0
+pub record Refusal : Type 0 where
+  pub number : ℕ
+  pub first : ℕ
+  pub second : ℕ
+
+abbrev pub refusal : ℕ → ℕ → ℕ → Refusal
+refusal n a b = record { number = n; first = a; second = b }
+
+pub data Kind : Type 0 where
+  BgRun : Kind
+  FgRun : Kind
+  FgBgImage : Kind
+  ColorRun : Kind
+  ColorImage : Kind
+  SetFgRun : Kind
+  SetFgBgImage : Kind
+  DitheredRun : Kind
+  SpecialFgBg1 : Kind
+  SpecialFgBg2 : Kind
+  White : Kind
+  Black : Kind
+  NoOrder : Kind
+
+-- how a kind writes its run lengths
+pub data Lengths : Type 0 where
+  -- unit, mega, header: the header's low bits times the unit; if they are 0, the next byte plus `mega`; with this one header
+  -- (mega-mega), the next two bytes, low byte first
+  written : ℕ → ℕ → ℕ → Lengths
+  -- always so many pixels
+  fixed : ℕ → Lengths
+
+-- a kind; its headers, `size` of them from `from` on, besides the mega-mega one; its run lengths
+pub record Row : Type 0 where
+  pub kind : Kind
+  pub from : ℕ
+  pub size : ℕ
+  pub lengths : Lengths
+
+unfoldable pub row : Kind → ℕ → ℕ → Lengths → Row
+row k a n l = record { kind = k; from = a; size = n; lengths = l }
+
+-- the kinds, by number
+unfoldable pub rows : List Row
+unfolding row
+rows =
+    row BgRun 0x00 32 (written 1 32 0xF0)
+    ∷ row FgRun 0x20 32 (written 1 32 0xF1)
+    ∷ row FgBgImage 0x40 32 (written 8 1 0xF2)
+    ∷ row ColorRun 0x60 32 (written 1 32 0xF3)
+    ∷ row ColorImage 0x80 32 (written 1 32 0xF4)
+    ∷ row SetFgRun 0xC0 16 (written 1 16 0xF6)
+    ∷ row SetFgBgImage 0xD0 16 (written 8 1 0xF7)
+    ∷ row DitheredRun 0xE0 16 (written 1 16 0xF8)
+    ∷ row SpecialFgBg1 0xF9 1 (fixed 8)
+    ∷ row SpecialFgBg2 0xFA 1 (fixed 8)
+    ∷ row White 0xFD 1 (fixed 1)
+    ∷ row Black 0xFE 1 (fixed 1)
+    ∷ []
+
+unfoldable pub noRow : Row
+unfolding row
+noRow = row NoOrder 0 0 (fixed 1)
+
+unfoldable pub kindRow : ℕ → Row
+kindRow c = getD rows c noRow
+
+-- the kind of a number; all from 12 on are no order
+unfoldable pub kindOf : ℕ → Kind
+kindOf c = kindRow c .kind
+
+unfoldable pub isMegaMega : ℕ → Lengths → Bool
+isMegaMega h (written unit mega header) = eqb h header
+isMegaMega h (fixed n) = false
+
+unfoldable pub hasHeader : ℕ → Row → Bool
+hasHeader h r = pick (pick (leb (r .from) h) (ltb h (r .from + r .size)) false) true (isMegaMega h (r .lengths))
+
+unfoldable pub numberIn : ℕ → List Row → ℕ
+numberIn h [] = 0
+numberIn h (r ∷ rs) = pick (hasHeader h r) 0 (suc (numberIn h rs))
+
+-- the number of the header's kind; 12: no order
+unfoldable pub kindNumber : ℕ → ℕ
+kindNumber h = numberIn h rows
+
+-- a run length with the stream's bytes left after it, or a refusal
+pub data RunLength : Type 0 where
+  runLength : ℕ → List ℕ → RunLength
+  noLength : Refusal → List ℕ → RunLength
+
+-- l where k bytes are left, else refusal 6
+unfoldable pub withBytes : ℕ → List ℕ → RunLength → RunLength
+withBytes k rest l = pick (leb k (length rest)) l (noLength (refusal 6 k (length rest)) rest)
+
+-- n where the header's low bits are not 0, else the next byte plus mega
+unfoldable pub shortLength : ℕ → ℕ → ℕ → List ℕ → RunLength
+shortLength low n mega rest =
+    pick (eqb low 0) (withBytes 1 rest (runLength (getD rest 0 0 + mega) (drop 1 rest))) (runLength n rest)
+
+unfoldable pub megaMegaLength : List ℕ → RunLength
+megaMegaLength rest =
+    let n = getD rest 0 0 + getD rest 1 0 * 256 in
+    withBytes 2 rest (pick (eqb n 0) (noLength (refusal 8 0 0) (drop 2 rest)) (runLength n (drop 2 rest)))
+
+unfoldable pub lengthIn : ℕ → Lengths → ℕ → List ℕ → RunLength
+lengthIn size (written unit mega _) h rest =
+    pick (ltb h 0xF0) (shortLength (h % size) (h % size * unit) mega rest) (megaMegaLength rest)
+lengthIn size (fixed n) h rest = runLength n rest
+
+-- the run length of the order with header h, of kind number c
+unfoldable pub lengthOf : ℕ → ℕ → List ℕ → RunLength
+lengthOf h c rest = lengthIn (kindRow c .size) (kindRow c .lengths) h rest
+
+-- an order's kind, its run length, and the bytes left; or a refusal
+pub data Head : Type 0 where
+  head : Kind → ℕ → List ℕ → Head
+  noHead : Refusal → List ℕ → Head
+
+unfoldable pub headed : Kind → RunLength → Head
+headed k (runLength n rest) = head k n rest
+headed k (noLength r rest) = noHead r rest
+
+-- the start of a stream with a byte left
+unfoldable pub headOf : List ℕ → Head
+headOf stream =
+    let h = getD stream 0 0 in
+    let c = kindNumber h in
+    headed (kindOf c) (lengthOf h c (drop 1 stream))

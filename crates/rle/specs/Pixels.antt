@@ -1,0 +1,33 @@
+-- Pixels, and the bytes that they stand in. A pixel travels as three bytes, low byte first, unused ones zero. D is how many of
+-- them a depth uses: so many stand in the stream and in the picture.
+use mathlib.Core.List.{List, [], _∷_, _++_}
+use mathlib.Core.Bool.{Bool, true, false}
+use Prim.Native.Nat.{ℕ, _*_}
+use lib.Dec.{ltb}
+use lib.ListN.{getD, take, drop}
+use lib.Bits.{bitXor}
+
+abbrev pub Pixel : Type 0
+Pixel = List ℕ
+
+-- the first where the test holds, else the second
+abbrev pub pick : {A : Type 0} → Bool → A → A → A
+pick true a b = a
+pick false a b = b
+
+-- the pixel that the bytes xs start with
+unfoldable pub firstPixel : ℕ → List ℕ → Pixel
+firstPixel D xs = getD xs 0 0 ∷ pick (ltb 1 D) (getD xs 1 0) 0 ∷ pick (ltb 2 D) (getD xs 2 0) 0 ∷ []
+
+-- pixel number k of the bytes xs
+unfoldable pub pixelAt : ℕ → List ℕ → ℕ → Pixel
+pixelAt D xs k = firstPixel D (drop (k * D) xs)
+
+-- the bytes of the pixels ps in order, D each
+unfoldable pub bytesOf : ℕ → List Pixel → List ℕ
+bytesOf D [] = []
+bytesOf D (p ∷ ps) = take D p ++ bytesOf D ps
+
+-- exclusive-or, byte by byte
+unfoldable pub xorPixel : Pixel → Pixel → Pixel
+xorPixel p q = bitXor (getD p 0 0) (getD q 0 0) ∷ bitXor (getD p 1 0) (getD q 1 0) ∷ bitXor (getD p 2 0) (getD q 2 0) ∷ []

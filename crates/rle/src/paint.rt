@@ -1,0 +1,172 @@
+// Painting pixels into a target: pixel k stands in its bytes from k * d on, and the pixel above it w pixels before.
+ghost use mathlib.Core.Path.{_≡_};
+ghost use Prim.Native.Nat.{_+_, _*_, _%_, _≤_};
+ghost use lib.Dec.{eqb};
+ghost use lib.ListN.{length, drop};
+ghost use Rattle.rle.specs.Pixels.{pick, pixelAt};
+ghost use Rattle.rle.specs.Decode as decode;
+ghost use Rattle.rle.specs.Contracts.{Paintable, PaintedOne, Painted, OfDepth, inkOf, solidInk};
+use crate::pixel::read_pixel;
+use crate::pixel::write_pixel;
+use crate::pixel::xor;
+
+pub(crate) enum Mode {
+    Solid,
+    Above,
+    AboveXor,
+}
+
+// What a pixel is painted with: a color, the pixel above, or the pixel above exclusive-or a color.
+pub(crate) struct Ink {
+    pub(crate) mode: Mode,
+    pub(crate) pixel: [u8; 3],
+}
+
+pub(crate) fn solid(p: [u8; 3]) -> Ink
+    ensures { λ r. ⌜ r ≡ solidInk p ⌝ }
+{
+    Ink {
+        mode: Mode::Solid,
+        pixel: p,
+    }
+}
+
+pub(crate) fn paint_pixel(dst: &mut [u8], d: usize, w: usize, k: usize, ink: Ink)
+    requires { ⌜ Paintable d w k 1 (now dst) ink ⌝ }
+    ensures { λ _. ⌜ PaintedOne d w (inkOf ink) k (now (dst .entry)) (now (dst .exit)) ⌝ }
+{
+    let mode = ink.mode;
+    let p = ink.pixel;
+    match mode {
+        Mode::Solid => write_pixel(dst, d, k * d, p),
+        Mode::Above => {
+            let q = read_pixel(dst, d, (k - w) * d);
+            write_pixel(dst, d, k * d, q)
+        }
+        Mode::AboveXor => {
+            let q = read_pixel(dst, d, (k - w) * d);
+            write_pixel(dst, d, k * d, xor(q, p))
+        }
+    }
+}
+
+// n pixels from number k on, all with one ink.
+pub(crate) fn paint_run(dst: &mut [u8], d: usize, w: usize, k: usize, n: usize, ink: Ink)
+    requires { ⌜ Paintable d w k n (now dst) ink ⌝ }
+    ensures { λ _. ⌜ Painted d w (λ _. inkOf ink) k n (now (dst .entry)) (now (dst .exit)) ⌝ }
+{
+    let mut i = 0;
+    while i < n {
+        paint_pixel(dst, d, w, k + i, ink);
+        i += 1;
+    }
+}
+
+// A background run's n pixels, the first with the foreground's ink where an insert is pending.
+pub(crate) fn paint_bg_run(
+    dst: &mut [u8],
+    d: usize,
+    w: usize,
+    k: usize,
+    n: usize,
+    insert: bool,
+    fg: Ink,
+    bg: Ink,
+)
+    requires { ⌜ Paintable d w k n (now dst) fg ⌝ }
+    requires { ⌜ Paintable d w k n (now dst) bg ⌝ }
+    requires { ⌜ 1 ≤ n ⌝ }
+    ensures { λ _. ⌜ Painted d w (decode.insertInk insert (inkOf fg) (inkOf bg)) k n (now (dst .entry)) (now (dst .exit)) ⌝ }
+{
+    if insert {
+        paint_pixel(dst, d, w, k, fg);
+        return paint_run(dst, d, w, k + 1, n - 1, bg);
+    }
+    paint_run(dst, d, w, k, n, bg)
+}
+
+pub(crate) fn ink_of_bit(bit: u8, fg: Ink, bg: Ink) -> Ink
+    ensures { λ r. ⌜ r ≡ pick (eqb bit 1) fg bg ⌝ }
+{
+    if bit == 1 {
+        return fg;
+    }
+    bg
+}
+
+// n pixels from number k on, by the bits of a mask.
+pub(crate) fn paint_mask(
+    dst: &mut [u8],
+    d: usize,
+    w: usize,
+    k: usize,
+    n: usize,
+    mask: u8,
+    fg: Ink,
+    bg: Ink,
+)
+    requires { ⌜ Paintable d w k n (now dst) fg ⌝ }
+    requires { ⌜ Paintable d w k n (now dst) bg ⌝ }
+    ensures { λ _. ⌜ Painted d w (decode.maskInk (inkOf fg) (inkOf bg) mask) k n (now (dst .entry)) (now (dst .exit)) ⌝ }
+{
+    let mut m = mask;
+    let mut i = 0;
+    while i < n {
+        paint_pixel(dst, d, w, k + i, ink_of_bit(m % 2, fg, bg));
+        m = m / 2;
+        i += 1;
+    }
+}
+
+// The ink of dithered pixel i: a where i is even, else b.
+pub(crate) fn dither_ink(a: [u8; 3], b: [u8; 3], i: usize) -> Ink
+    ensures { λ r. ⌜ r ≡ solidInk (pick (eqb (i % 2) 0) a b) ⌝ }
+{
+    if i % 2 == 0 {
+        return solid(a);
+    }
+    solid(b)
+}
+
+// n pixels from number k on, a and b by turns.
+pub(crate) fn paint_dithered(
+    dst: &mut [u8],
+    d: usize,
+    w: usize,
+    k: usize,
+    n: usize,
+    a: [u8; 3],
+    b: [u8; 3],
+)
+    requires { ⌜ Paintable d w k n (now dst) (solidInk a) ⌝ }
+    requires { ⌜ OfDepth d b ⌝ }
+    ensures { λ _. ⌜ Painted d w (decode.ditherInk a b) k n (now (dst .entry)) (now (dst .exit)) ⌝ }
+{
+    let mut i = 0;
+    while i < n {
+        paint_pixel(dst, d, w, k + i, dither_ink(a, b, i));
+        i += 1;
+    }
+}
+
+// n pixels from number k on, those of the stream from src[pos] on.
+pub(crate) fn paint_image(
+    src: &[u8],
+    pos: usize,
+    dst: &mut [u8],
+    d: usize,
+    w: usize,
+    k: usize,
+    n: usize,
+)
+    requires { ⌜ (1 ≤ d) × (d ≤ 3) × (1 ≤ w) × ((k + n) * d ≤ length (now dst)) ⌝ }
+    requires { ⌜ pos + n * d ≤ length (now src) ⌝ }
+    ensures { λ _. ⌜ Painted d w (λ j. decode.Ink.solid (pixelAt d (drop pos (now (src .entry))) j)) k n (now (dst .entry)) (now (dst .exit)) ⌝ }
+{
+    let mut i = 0;
+    while i < n {
+        let p = read_pixel(src, d, pos + i * d);
+        paint_pixel(dst, d, w, k + i, solid(p));
+        i += 1;
+    }
+}
