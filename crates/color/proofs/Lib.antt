@@ -1,0 +1,5 @@
+pub mod Channels
+pub mod Triples
+pub mod Expanding
+pub mod Agreeing
+pub mod Meaning

@@ -1,0 +1,77 @@
+-- Expansion: one pixel becomes a blue, a green and a red byte, in this order; bytes that the depth does not use are ignored.
+-- `expand` answers what `expanded` says, and same picture compares the same colors. The rule of each channel stands in one
+-- place, `channel5` and `channel6`.
+use mathlib.Core.List.{List, [], _∷_}
+use mathlib.Core.Bool.{Bool, true}
+use Prim.Native.Nat.{ℕ, _+_, _*_, _/_, _%_}
+use lib.Dec.{eqb, leb}
+use lib.ListN.{length, getD}
+use Rattle.rle.specs.Pixels.{Pixel, pick}
+use Rattle.rle.specs.Orders.{Refusal, refusal}
+use Rattle.rle.specs.Decode.{depthIndex}
+use Rattle.rle.specs.Report.{refusalOf}
+use Rattle.color.specs.declared.pixel.Expansion.{Expansion}
+use Rattle.color.specs.declared.pixel.Expansion.the-variants.{Done, Refused}
+use Rattle.color.specs.declared.pixel.Expanded.{Expanded}
+
+-- blue, green, red
+abbrev pub Triple : Type 0
+Triple = List ℕ
+
+-- a channel of five bits as a byte
+unfoldable pub channel5 : ℕ → ℕ
+channel5 c = 8 * c
+
+-- a channel of six bits as a byte
+unfoldable pub channel6 : ℕ → ℕ
+channel6 c = 4 * c
+
+-- the number that a pixel of two bytes is
+unfoldable pub word : Pixel → ℕ
+word p = getD p 0 0 + 256 * getD p 1 0
+
+-- 15 bits per pixel: five bits each, blue lowest
+unfoldable pub expand15 : Pixel → Triple
+expand15 p = channel5 (word p % 32) ∷ channel5 (word p / 32 % 32) ∷ channel5 (word p / 1024 % 32) ∷ []
+
+-- 16 bits per pixel: five, six and five bits, blue lowest
+unfoldable pub expand16 : Pixel → Triple
+expand16 p = channel5 (word p % 32) ∷ channel6 (word p / 32 % 64) ∷ channel5 (word p / 2048 % 32) ∷ []
+
+-- entry i of a palette: 256 triples as they stand in its first 768 bytes
+unfoldable pub entry : List ℕ → ℕ → Triple
+entry palette i = getD palette (3 * i) 0 ∷ getD palette (3 * i + 1) 0 ∷ getD palette (3 * i + 2) 0 ∷ []
+
+-- the color of a pixel, at a depth of the table and with a palette that is long enough
+unfoldable pub colorOf : List ℕ → ℕ → Pixel → Triple
+colorOf palette bpp p =
+    pick (eqb bpp 8) (entry palette (getD p 0 0)) (pick (eqb bpp 15) (expand15 p) (pick (eqb bpp 16) (expand16 p) p))
+
+-- the palette has its 256 entries, where the depth needs one
+unfoldable pub paletteFits : ℕ → List ℕ → Bool
+paletteFits bpp palette = pick (eqb bpp 8) (leb 768 (length palette)) true
+
+-- what expansion answers: a refusal (number 0: none), and the triple (zeros where refused)
+pub record Answer : Type 0 where
+  pub refusal : Refusal
+  pub triple : Triple
+
+abbrev pub refusing : Refusal → Answer
+refusing r = record { refusal = r; triple = 0 ∷ 0 ∷ 0 ∷ [] }
+
+abbrev pub giving : Triple → Answer
+giving t = record { refusal = refusal 0 0 0; triple = t }
+
+-- the definition: refusal 1, then 4 for a short palette, then the color
+unfoldable pub expanded : List ℕ → ℕ → Pixel → Answer
+expanded palette bpp p =
+    pick (leb 4 (depthIndex bpp)) (refusing (refusal 1 bpp 0))
+    (pick (paletteFits bpp palette) (giving (colorOf palette bpp p)) (refusing (refusal 4 768 (length palette))))
+
+-- number and values of the code's answer
+abbrev pub refusalIn : Expansion → Refusal
+refusalIn Done = refusal 0 0 0
+refusalIn (Refused e) = refusalOf e
+
+abbrev pub answerIn : Expanded → Answer
+answerIn r = record { refusal = refusalIn (r .answer); triple = r .bgr }

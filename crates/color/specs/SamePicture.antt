@@ -1,0 +1,71 @@
+-- Same picture: both arguments are valid, and widths, heights, pixel counts and the colors of all painted pixels agree. The
+-- depths may differ.
+use mathlib.Core.Path.{_≡_}
+use mathlib.Core.List.{List}
+use mathlib.Core.Bool.{Bool, true, false}
+use Prim.Native.Nat.{ℕ, zero, suc, _*_, _<_}
+use lib.Dec.{eqb, leb}
+use lib.ListN.{length, getD}
+use Rattle.rle.specs.Pixels.{pick, pixelAt}
+use Rattle.rle.specs.Decode.{depthOf, checked}
+use Rattle.rle.specs.Report.{Size, bytes, refused, sizeOf}
+use Rattle.color.specs.declared.same.Shape.{Shape}
+use Rattle.color.specs.Colors.{Triple, colorOf, paletteFits}
+
+-- a picture of which the first `pixels` pixels are painted
+pub record Picture : Type 0 where
+  pub slice : List ℕ
+  pub pixels : ℕ
+  pub width : ℕ
+  pub height : ℕ
+  pub bpp : ℕ
+
+abbrev pub picture : List ℕ → ℕ → ℕ → ℕ → ℕ → Picture
+picture xs pixels width height bpp = record { slice = xs; pixels = pixels; width = width; height = height; bpp = bpp }
+
+-- the picture of a slice and the code's numbers
+abbrev pub pictureOf : List ℕ → Shape → Picture
+pictureOf xs s = picture xs (s .pixels) (s .width) (s .height) (s .bpp)
+
+abbrev pub both : Bool → Bool → Bool
+both a b = pick a b false
+
+-- depth and sizes are good (refusals 1 to 3), and the slice has space for the whole picture
+unfoldable pub hasSpace : ℕ → Size → Bool
+hasSpace given (refused r) = false
+hasSpace given (bytes n) = leb n given
+
+unfoldable pub valid : List ℕ → Picture → Bool
+valid palette p =
+    both (hasSpace (length (p .slice)) (sizeOf (checked (p .bpp) (p .width) (p .height))))
+    (both (leb (p .pixels) (p .width * p .height)) (paletteFits (p .bpp) palette))
+
+-- the color of pixel k
+unfoldable pub colorAt : List ℕ → Picture → ℕ → Triple
+colorAt palette p k = colorOf palette (p .bpp) (pixelAt (depthOf (p .bpp) .bytes) (p .slice) k)
+
+unfoldable pub sameTriple : Triple → Triple → Bool
+sameTriple s t =
+    both (eqb (getD s 0 0) (getD t 0 0)) (both (eqb (getD s 1 0) (getD t 1 0)) (eqb (getD s 2 0) (getD t 2 0)))
+
+-- the first n pixels have the same colors
+unfoldable pub sameColors : List ℕ → Picture → Picture → ℕ → Bool
+sameColors palette a b zero = true
+sameColors palette a b (suc n) = both (sameColors palette a b n) (sameTriple (colorAt palette a n) (colorAt palette b n))
+
+-- the definition
+unfoldable pub samePicture : List ℕ → Picture → Picture → Bool
+samePicture palette a b =
+    both (valid palette a)
+    (both (valid palette b)
+    (both (eqb (a .width) (b .width))
+    (both (eqb (a .height) (b .height)) (both (eqb (a .pixels) (b .pixels)) (sameColors palette a b (a .pixels))))))
+
+-- what a yes says (proofs/Meaning.antt: it is yes exactly if this holds)
+pub record Alike (palette : List ℕ) (a b : Picture) : Type 0 where
+  pub first : valid palette a ≡ true
+  pub second : valid palette b ≡ true
+  pub widths : a .width ≡ b .width
+  pub heights : a .height ≡ b .height
+  pub counts : a .pixels ≡ b .pixels
+  pub colors : (k : ℕ) → k < a .pixels → colorAt palette a k ≡ colorAt palette b k
