@@ -1,0 +1,36 @@
+-- The numbers that the exported color functions hand to C, for the answers that the definitions give.
+use mathlib.Core.List.{List, [], _∷_}
+use mathlib.Core.Bool.{Bool}
+use Prim.Native.Nat.{ℕ, _≤_}
+use lib.Dec.{ltb}
+use lib.ListN.{getD}
+use Rattle.rle.specs.Pixels.{pick}
+use Rattle.rle.specs.Orders.{Refusal}
+use Rattle.color.specs.declared.palette.Look.{Look}
+use Rattle.color.specs.declared.palette.Look.the-variants.{At, Nothing}
+use Rattle.color.specs.Colors.{Triple, Answer}
+use Rattle.color.specs.Look.{Looked}
+use Rattle.screen.specs.Rows.{RowPart}
+
+-- refusal (0: none), first, second, blue, green, red
+unfoldable pub numbersOf : Refusal → Triple → List ℕ
+numbersOf r t = r .number ∷ r .first ∷ r .second ∷ getD t 0 0 ∷ getD t 1 0 ∷ getD t 2 0 ∷ 0 ∷ 0 ∷ []
+
+unfoldable pub answerNumbers : Answer → List ℕ
+unfolding numbersOf
+answerNumbers a = numbersOf (a .refusal) (a .triple)
+
+-- 256: nothing
+abbrev pub lookOf : ℕ → Look
+lookOf r = pick (ltb r 256) (At r) Nothing
+
+pub record LookedAt (palette : List ℕ) (t : Triple) (r : ℕ) : Type 0 where
+  pub most : r ≤ 256
+  pub looked : Looked palette t (lookOf r)
+
+abbrev pub yesNo : Bool → ℕ
+yesNo t = pick t 1 0
+
+-- which slice (0 the new picture, 1 the one on screen), start and length
+unfoldable pub partNumbers : RowPart → List ℕ
+partNumbers p = yesNo (p .onScreen) ∷ p .start ∷ p .size ∷ 0 ∷ 0 ∷ 0 ∷ 0 ∷ 0 ∷ []

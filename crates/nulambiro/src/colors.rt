@@ -1,0 +1,124 @@
+// Expansion, palette look, same picture and the row to show, for C. include/nulambiro.h says what a caller needs to know.
+ghost use mathlib.Core.Path.{_≡_};
+ghost use mathlib.Core.List.{[], _∷_};
+ghost use Rattle.color.specs.Colors.{expanded, refusalIn};
+ghost use Rattle.color.specs.SamePicture.{samePicture, picture};
+ghost use Rattle.screen.specs.Rows.{partToShow};
+ghost use Rattle.nulambiro.specs.ColorNumbers.{numbersOf, answerNumbers, LookedAt, yesNo, partNumbers};
+use color::Expansion;
+use color::Look;
+use color::Shape;
+use rle::Outcome;
+
+pub(crate) fn expansion_numbers(answer: Expansion, bgr: [u8; 3]) -> [u64; 8]
+    ensures { λ r. ⌜ r ≡ numbersOf (refusalIn answer) bgr ⌝ }
+{
+    let b = bgr[0] as u64;
+    let g = bgr[1] as u64;
+    let r = bgr[2] as u64;
+    match answer {
+        Expansion::Done => [0, 0, 0, b, g, r, 0, 0],
+        Expansion::Refused(e) => {
+            let n = rle::numbers_of(Outcome::Err(e));
+            [
+                n.refusal as u64,
+                n.first as u64,
+                n.second as u64,
+                b,
+                g,
+                r,
+                0,
+                0,
+            ]
+        }
+    }
+}
+
+// A pixel travels as three bytes by value: a pointer to them might reach past the end of a picture of fewer bytes a pixel.
+#[no_mangle]
+pub extern "C" fn nulambiro_expand(
+    low: u8,
+    middle: u8,
+    high: u8,
+    bpp: usize,
+    palette: &[u8],
+    report: &mut [u64; 8],
+)
+    ensures { λ _. ⌜ now (report .exit) ≡ answerNumbers (expanded (now (palette .entry)) bpp (low ∷ middle ∷ high ∷ [])) ⌝ }
+{
+    let e = color::expand([low, middle, high], bpp, palette);
+    let answer = e.answer;
+    let bgr = e.bgr;
+    let t = expansion_numbers(answer, bgr);
+    *report = t;
+}
+
+#[no_mangle]
+pub extern "C" fn nulambiro_palette_look(palette: &[u8], blue: u8, green: u8, red: u8) -> usize
+    ensures { λ r. ⌜ LookedAt (now (palette .entry)) (blue ∷ green ∷ red ∷ []) r ⌝ }
+{
+    let look = color::palette_look(palette, [blue, green, red]);
+    match look {
+        Look::At(i) => i,
+        Look::Nothing => 256,
+    }
+}
+
+#[no_mangle]
+pub extern "C" fn nulambiro_same_picture(
+    a: &[u8],
+    pixels: usize,
+    width: usize,
+    height: usize,
+    bpp: usize,
+    b: &[u8],
+    pixels2: usize,
+    width2: usize,
+    height2: usize,
+    bpp2: usize,
+    palette: &[u8],
+) -> u8
+    ensures { λ r. ⌜ r ≡ yesNo (samePicture (now (palette .entry)) (picture (now (a .entry)) pixels width height bpp) (picture (now (b .entry)) pixels2 width2 height2 bpp2)) ⌝ }
+{
+    let p = Shape {
+        pixels,
+        width,
+        height,
+        bpp,
+    };
+    let q = Shape {
+        pixels: pixels2,
+        width: width2,
+        height: height2,
+        bpp: bpp2,
+    };
+    if color::same_picture(a, p, b, q, palette) {
+        1
+    } else {
+        0
+    }
+}
+
+// The row to show, as a place in one of two slices: a slice can't be handed back to C.
+#[no_mangle]
+pub extern "C" fn nulambiro_row_to_show(
+    new: usize,
+    pixels: usize,
+    screen: usize,
+    bpp: usize,
+    width: usize,
+    height: usize,
+    row: usize,
+    report: &mut [u64; 8],
+)
+    ensures { λ _. ⌜ now (report .exit) ≡ partNumbers (partToShow new pixels screen bpp width height row) ⌝ }
+{
+    let p = screen::part_to_show(new, pixels, screen, bpp, width, height, row);
+    let start = p.start as u64;
+    let size = p.size as u64;
+    if p.on_screen {
+        *report = [1, start, size, 0, 0, 0, 0, 0];
+    } else {
+        *report = [0, start, size, 0, 0, 0, 0, 0];
+    }
+}

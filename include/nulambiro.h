@@ -1,0 +1,221 @@
+/*
+ * Nulambiro: a decoder of interleaved RLE bitmaps, the compressed rectangles
+ * of the Remote Desktop Protocol (MS-RDPBCGR 2.2.9.1.1.3.1.2.4 and 3.1.9),
+ * with what is needed between decoded pixels and a screen.
+ *
+ * The library is one archive, libnulambiro.a, for x86-64. It has no state:
+ * calls from several threads need no lock, as long as each has its own target
+ * and report.
+ */
+#ifndef NULAMBIRO_H
+#define NULAMBIRO_H
+
+#include <stddef.h>
+#include <stdint.h>
+
+#ifdef __cplusplus
+extern "C" {
+#endif
+
+/* The most pixels that one side of a picture may have. */
+#define NULAMBIRO_MAX_SIDE 8192
+
+/* The most pixels that one byte of a stream can paint. */
+#define NULAMBIRO_MAX_PIXELS_PER_BYTE 26214
+
+/* Places in the report. */
+enum {
+  /* Bits per pixel of the decoded picture, 8, 15, 16 or 24; 0 if refused. */
+  NULAMBIRO_FORMAT = 0,
+  /* One of the refusal numbers below; 0 if the stream was decoded. */
+  NULAMBIRO_REFUSAL = 1,
+  /* Two numbers that belong to the refusal; 0 where it names none. */
+  NULAMBIRO_FIRST = 2,
+  NULAMBIRO_SECOND = 3,
+  /* Pixels painted, also those before a refusal. */
+  NULAMBIRO_PIXELS = 4,
+  /* Orders whose last pixel was painted. */
+  NULAMBIRO_ORDERS = 5,
+  /* Places 6 and 7 are always 0. */
+  NULAMBIRO_REPORT_PLACES = 8
+};
+
+/*
+ * Refusal numbers, and what NULAMBIRO_FIRST and NULAMBIRO_SECOND hold. The
+ * first four are tested in the order of their numbers, before the stream is
+ * read: they change no byte of the target, and both counts are 0. The others
+ * come from the stream: the pixels painted before them stay.
+ */
+enum {
+  NULAMBIRO_OK = 0,
+  /* bpp is none of 8, 15, 16 and 24. First: bpp. */
+  NULAMBIRO_INVALID_BPP = 1,
+  /* width or height is 0. */
+  NULAMBIRO_EMPTY_IMAGE = 2,
+  /* A side is above NULAMBIRO_MAX_SIDE. First: width. Second: height. */
+  NULAMBIRO_DIMENSIONS_TOO_LARGE = 3,
+  /* The target is shorter than the picture. First: bytes needed. Second:
+   * bytes given (dst_len). */
+  NULAMBIRO_BUFFER_TOO_SHORT = 4,
+  /* A header byte is no order: A0 to BF, F5, FB, FC or FF. */
+  NULAMBIRO_BAD_ORDER_CODE = 5,
+  /* The stream ends inside an order. First: bytes expected. Second: bytes
+   * left. */
+  NULAMBIRO_NOT_ENOUGH_BYTES = 6,
+  /* An order goes past the end of the picture. First: bytes of the picture
+   * that are left. Second: bytes that it would write. */
+  NULAMBIRO_INVALID_IMAGE_SIZE = 7,
+  /* A run length of two bytes is 0. */
+  NULAMBIRO_UNEXPECTED_ZERO_LENGTH = 8
+};
+
+/*
+ * Decodes the stream src of src_len bytes into the target dst of dst_len
+ * bytes, and writes what came out to report.
+ *
+ * The picture has width * height pixels of D bytes each and takes the first
+ * width * height * D bytes of the target. D is 1 at 8 bits per pixel (bpp), 2
+ * at 15 and 16, and 3 at 24. The picture's rows follow each other without
+ * gaps, in the order of the stream; in the protocol the first one is the
+ * lowest on the screen. A pixel's low byte comes first. At 8 bpp a pixel is an
+ * index into a palette; at 15 bpp the top bit is kept as the stream has it.
+ *
+ * The end of the stream between two orders is no error, however few pixels
+ * have been painted: compare report[NULAMBIRO_PIXELS] with width * height to
+ * know whether the picture is whole.
+ *
+ * What holds after every call, whatever the stream and the numbers are:
+ * - The first report[NULAMBIRO_PIXELS] * D bytes of the target are the
+ *   painted pixels. They depend on the stream, width, height and bpp alone,
+ *   never on what the target held before.
+ * - All later bytes of the target are as they were before the call, up to
+ *   dst_len. Refusals 1 to 4 paint nothing, so they change no byte.
+ * - Nothing outside the target and the report is written, nothing outside
+ *   the stream and the target is read, and no memory is allocated.
+ * - Orders <= pixels <= NULAMBIRO_MAX_PIXELS_PER_BYTE * src_len, and
+ *   pixels <= width * height.
+ *
+ * What the caller must provide:
+ * - src must be readable for src_len bytes, dst readable and writable for
+ *   dst_len bytes. Either may be a null pointer if its length is 0.
+ * - report must have NULAMBIRO_REPORT_PLACES elements. Their old values do
+ *   not matter; all of them are written.
+ * - src, dst and report must not overlap.
+ * Nothing is required of width, height and bpp: bad values are refused.
+ */
+void nulambiro_decompress(const uint8_t *src, size_t src_len, uint8_t *dst,
+                          size_t dst_len, size_t width, size_t height,
+                          size_t bpp, uint64_t report[NULAMBIRO_REPORT_PLACES]);
+
+/* The bytes of a palette: 256 entries of blue, green and red. */
+#define NULAMBIRO_PALETTE_BYTES 768
+
+/* Places in the report of nulambiro_expand. */
+enum {
+  /* NULAMBIRO_INVALID_BPP, NULAMBIRO_BUFFER_TOO_SHORT, or 0. */
+  NULAMBIRO_EXPAND_REFUSAL = 0,
+  /* Two numbers that belong to the refusal; 0 where it names none. */
+  NULAMBIRO_EXPAND_FIRST = 1,
+  NULAMBIRO_EXPAND_SECOND = 2,
+  /* The color, 0 to 255 each; 0 if refused. */
+  NULAMBIRO_EXPAND_BLUE = 3,
+  NULAMBIRO_EXPAND_GREEN = 4,
+  NULAMBIRO_EXPAND_RED = 5
+  /* Places 6 and 7 are always 0. */
+};
+
+/*
+ * Writes the color of one pixel to report.
+ *
+ * The pixel is given as its bytes in the picture, the first one as low. Bytes
+ * that the depth does not use are ignored. At 24 bpp they are blue, green and
+ * red. At 15 bpp the pixel has five bits for each channel, at 16 bpp five for
+ * blue, six for green and five for red; blue has the lowest bits. A channel c
+ * of five bits becomes 8 * c, one of six bits 4 * c. At 8 bpp low is an index
+ * i into the palette, whose bytes 3 * i, 3 * i + 1 and 3 * i + 2 are blue,
+ * green and red.
+ *
+ * Refused are, in this order:
+ * - NULAMBIRO_INVALID_BPP: bpp is none of 8, 15, 16 and 24. First: bpp.
+ * - NULAMBIRO_BUFFER_TOO_SHORT, at 8 bpp alone: the palette has fewer than
+ *   NULAMBIRO_PALETTE_BYTES bytes. First: these. Second: palette_len.
+ *
+ * What the caller must provide: palette must be readable for palette_len
+ * bytes, or may be a null pointer if that is 0. report must have
+ * NULAMBIRO_REPORT_PLACES elements that do not overlap the palette; all of
+ * them are written.
+ */
+void nulambiro_expand(uint8_t low, uint8_t middle, uint8_t high, size_t bpp,
+                      const uint8_t *palette, size_t palette_len,
+                      uint64_t report[NULAMBIRO_REPORT_PLACES]);
+
+/* What nulambiro_palette_look returns if no entry equals the color. */
+#define NULAMBIRO_NO_ENTRY 256
+
+/*
+ * Returns the index of a palette entry, 0 to 255, that equals the color, or
+ * NULAMBIRO_NO_ENTRY exactly if no entry does or the palette has fewer than
+ * NULAMBIRO_PALETTE_BYTES bytes. Which index is returned is not promised where
+ * several entries equal the color.
+ *
+ * palette must be readable for palette_len bytes, or may be a null pointer if
+ * that is 0.
+ */
+size_t nulambiro_palette_look(const uint8_t *palette, size_t palette_len,
+                              uint8_t blue, uint8_t green, uint8_t red);
+
+/*
+ * Returns 1 if two pictures look the same, else 0. Their depths may differ.
+ *
+ * They look the same exactly if both are valid and their widths, heights,
+ * pixel counts and the colors (see nulambiro_expand) of all painted pixels,
+ * the first a_pixels and b_pixels of them, agree. A picture is valid if
+ * - bpp is 8, 15, 16 or 24, and width and height are 1 to
+ *   NULAMBIRO_MAX_SIDE,
+ * - its length is at least the whole picture's, width * height pixels (see
+ *   nulambiro_decompress),
+ * - its pixel count is at most width * height,
+ * - at 8 bpp, the palette has at least NULAMBIRO_PALETTE_BYTES bytes.
+ *
+ * a, b and palette must be readable for their lengths. Each may be a null
+ * pointer if its length is 0; they may overlap, and a and b may be the same.
+ * Nothing is required of the other numbers.
+ */
+uint8_t nulambiro_same_picture(const uint8_t *a, size_t a_len, size_t a_pixels,
+                               size_t a_width, size_t a_height, size_t a_bpp,
+                               const uint8_t *b, size_t b_len, size_t b_pixels,
+                               size_t b_width, size_t b_height, size_t b_bpp,
+                               const uint8_t *palette, size_t palette_len);
+
+/* Places in the report of nulambiro_row_to_show. */
+enum {
+  /* 0: a part of the new picture. 1: a part of the one on screen. */
+  NULAMBIRO_ROW_ON_SCREEN = 0,
+  /* The first byte of the part, and its length in bytes. */
+  NULAMBIRO_ROW_START = 1,
+  NULAMBIRO_ROW_LENGTH = 2
+  /* Places 3 to 7 are always 0. */
+};
+
+/*
+ * Writes to report where a row stands that is to be shown: row `row` of the
+ * new picture if it is wholly painted, (row + 1) * width <= pixels, else the
+ * same part of the picture on screen. new_len and screen_len are the lengths
+ * of the two pictures in bytes; the part lies inside both of them.
+ *
+ * The part is empty, start and length 0 in the new picture, if bpp is none of
+ * 8, 15, 16 and 24, width or height is not 1 to NULAMBIRO_MAX_SIDE, row is not
+ * below height, or either length is less than the whole picture's.
+ *
+ * Nothing is required of the numbers. report must have NULAMBIRO_REPORT_PLACES
+ * elements; all of them are written.
+ */
+void nulambiro_row_to_show(size_t new_len, size_t pixels, size_t screen_len,
+                           size_t bpp, size_t width, size_t height, size_t row,
+                           uint64_t report[NULAMBIRO_REPORT_PLACES]);
+
+#ifdef __cplusplus
+}
+#endif
+
+#endif

@@ -1,0 +1,82 @@
+//! Expansion of one pixel.
+
+use crate::{color, Random};
+use nulambiro::{expand, Refusal};
+
+#[test]
+fn all_pixels_of_two_bytes_follow_the_rule() {
+    for bpp in [15, 16] {
+        for number in 0..=u16::MAX {
+            let [low, high] = number.to_le_bytes();
+            // The third byte is not used, nor is the palette.
+            let pixel = [low, high, low ^ 0x5A];
+            assert_eq!(expand(pixel, bpp, &[]), Ok(color(&pixel, bpp, &[])));
+        }
+    }
+}
+
+#[test]
+fn white_of_two_bytes_is_not_white() {
+    assert_eq!(expand([0xFF, 0x7F, 0], 15, &[]), Ok([248, 248, 248]));
+    assert_eq!(expand([0xFF, 0xFF, 0], 16, &[]), Ok([248, 252, 248]));
+}
+
+#[test]
+fn top_bit_of_15_bits_is_ignored() {
+    for low in 0..=u8::MAX {
+        let pixel = [low, 0x12, 0];
+        assert_eq!(expand(pixel, 15, &[]), expand([low, 0x92, 0], 15, &[]));
+    }
+}
+
+#[test]
+fn three_bytes_are_copied() {
+    for channel in 0..3 {
+        for value in 0..=u8::MAX {
+            let mut pixel = [0x11, 0x22, 0x33];
+            pixel[channel] = value;
+            assert_eq!(expand(pixel, 24, &[]), Ok(pixel));
+        }
+    }
+}
+
+#[test]
+fn one_byte_is_an_index_into_the_palette() {
+    let palette = Random(8).bytes(768 + 5);
+    for index in 0..=u8::MAX {
+        let pixel = [index, !index, 0x77];
+        assert_eq!(expand(pixel, 8, &palette), Ok(color(&pixel, 8, &palette)));
+    }
+}
+
+#[test]
+fn palette_entries_stand_blue_green_red() {
+    let mut palette = [0; 768];
+    palette[765..].copy_from_slice(&[1, 2, 3]);
+    assert_eq!(expand([255, 0, 0], 8, &palette), Ok([1, 2, 3]));
+}
+
+#[test]
+fn short_palette_is_refused_at_8_bits_alone() {
+    for len in [0, 1, 765, 767] {
+        let palette = vec![0; len];
+        let short = Refusal::BufferTooShort {
+            needed: 768,
+            given: len,
+        };
+        assert_eq!(expand([0, 0, 0], 8, &palette), Err(short));
+        for bpp in [15, 16, 24] {
+            assert!(expand([0, 0, 0], bpp, &palette).is_ok());
+        }
+    }
+    assert!(expand([0, 0, 0], 8, &[0; 768]).is_ok());
+}
+
+#[test]
+fn other_depths_are_refused_before_the_palette() {
+    for bpp in [0, 1, 7, 9, 14, 17, 23, 25, 32, 264, 65544, usize::MAX] {
+        let refused = Err(Refusal::InvalidBpp { bpp });
+        assert_eq!(expand([1, 2, 3], bpp, &[0; 768]), refused);
+        assert_eq!(expand([1, 2, 3], bpp, &[]), refused);
+    }
+}

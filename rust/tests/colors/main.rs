@@ -1,0 +1,52 @@
+//! Colors and rows, against rules of a few lines that share nothing with the library.
+
+mod expansion;
+mod palettes;
+mod rows;
+mod same;
+
+/// Depths with their bytes per pixel.
+const DEPTHS: [(usize, usize); 4] = [(8, 1), (15, 2), (16, 2), (24, 3)];
+
+/// Numbers by chance (xorshift64*), the same in every run.
+struct Random(u64);
+
+impl Random {
+    fn next(&mut self) -> u64 {
+        self.0 ^= self.0 >> 12;
+        self.0 ^= self.0 << 25;
+        self.0 ^= self.0 >> 27;
+        self.0.wrapping_mul(0x2545_F491_4F6C_DD1D)
+    }
+
+    fn below(&mut self, n: usize) -> usize {
+        ((self.next() >> 33) as usize) % n
+    }
+
+    fn byte(&mut self) -> u8 {
+        (self.next() >> 32) as u8
+    }
+
+    fn bytes(&mut self, n: usize) -> Vec<u8> {
+        (0..n).map(|_| self.byte()).collect()
+    }
+}
+
+/// The rule of expansion: bits out of the pixel's number, and zeros below them.
+fn color(pixel: &[u8], bpp: usize, palette: &[u8]) -> [u8; 3] {
+    let channel = |number: u32, from: u32, bits: u32| {
+        let c = (number >> from) & ((1 << bits) - 1);
+        (c << (8 - bits)) as u8
+    };
+    let number = || u32::from(pixel[0]) | u32::from(pixel[1]) << 8;
+    match bpp {
+        8 => {
+            let entry = palette.chunks(3).nth(usize::from(pixel[0])).unwrap();
+            [entry[0], entry[1], entry[2]]
+        }
+        15 => [(0, 5), (5, 5), (10, 5)].map(|(from, bits)| channel(number(), from, bits)),
+        16 => [(0, 5), (5, 6), (11, 5)].map(|(from, bits)| channel(number(), from, bits)),
+        24 => [pixel[0], pixel[1], pixel[2]],
+        _ => panic!("no depth of {bpp} bits"),
+    }
+}
