@@ -1,0 +1,13 @@
+pub mod Table
+pub mod Keys
+pub mod Fold
+pub mod Decimals
+pub mod Writing
+pub mod Replying
+pub mod Digits
+pub mod Steps
+pub mod Complete
+pub mod Sound
+pub mod Inverse
+pub mod Unique
+pub mod Case

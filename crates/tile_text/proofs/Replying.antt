@@ -1,0 +1,162 @@
+-- From the decoder's report to the answer: each way through `answer` gives the definition's result, and the lines with its values are
+-- the definition's lines. Assumes nothing.
+use mathlib.Core.Path.{_≡_, refl, _∙_, ap, subst}
+use mathlib.Core.List.{List, []}
+use mathlib.Core.Bool.{Bool, true, false}
+use Prim.Native.Nat.{ℕ, _+_, _*_, _-_, _<_, _≤_}
+use native.Mathlib.Omega.{arith}
+use lib.Dec.{ltb, leb, eqb}
+use lib.ListN.{length, take, length-append, length-drop}
+use lib.Seq.{take-append-seam}
+use borrow.Author.Tests.{eq-eqb, ne-eqb, lt-ltb, le-ltb}
+use Rattle.rle.specs.Pixels.{pick, bytesOf}
+use Rattle.rle.specs.Orders.{Refusal, refusal}
+use Rattle.rle.specs.Decode.{Result, Checked, away, fit, Run, ended, paused, stopped, Frame, checked, withSpace, ofChecked, ofRun, resultOf, decode, result, resultIn, fitOf, depthOf, depthIndex}
+use Rattle.rle.specs.Report.{bytes, refused, sizeOf, refusalIn, formatIn, Decompresses}
+use Rattle.rle.specs.declared.report.Report.{Report}
+use Rattle.tile_text.specs.Answer.{refusedWith, badTileText, tileTooLarge, limited, linesOf}
+use Rattle.tile_text.specs.Reply.{decoded, replyOf, fieldsOf, linesWith, Within, Answered, Replies}
+use Rattle.tile_text.specs.Written.{Writes}
+use Rattle.tile_text.specs.declared.parser.Parser.{Parser}
+use Rattle.tile_text.specs.declared.answer.Fields.{Fields}
+use Rattle.tile_text.proofs.Writing.{writes-as, from-start}
+
+unlike : {A : Type 0} → _≡_ {A = ℕ} 0 1 → A
+unlike e = absurd (let no : ⊥ = omega arith in no)
+
+-- ---- refusals before the stream
+
+nothing : Refusal → Result
+nothing r = record { refusal = r; format = 0; bytes = 0; painted = []; orders = 0 }
+
+nothing-painted : (r : Refusal) (xs : List ℕ) (v : Fields) → v ≡ fieldsOf 0 r 0 0 0 → Answered (nothing r) xs xs v
+unfolding nothing bytesOf
+nothing-painted r xs v e = record { fields = e; target = refl; fits = omega arith }
+
+away-result : (c : Checked) (r : Refusal) (stream : List ℕ) → refused r ≡ sizeOf c → ofChecked stream c ≡ nothing r
+unfolding sizeOf ofChecked nothing
+away-result (away q) r stream e = let same : q ≡ r = cc in rw same
+away-result (fit f k) r stream e = unlike cc
+
+fit-limited : (c : Checked) (n streamBytes : ℕ) (e : Result) → bytes n ≡ sizeOf c
+    → limited (sizeOf c) streamBytes e ≡ pick (ltb 65536 n) tileTooLarge (pick (ltb 8192 streamBytes) tileTooLarge e)
+unfolding limited
+fit-limited c n streamBytes e h = rw (← h)
+
+module _ (p : Parser) (stream xs : List ℕ) (v : Fields) where
+  pub answered-bad : (p .line ≡ 4 → ⊥) → v ≡ fieldsOf 0 (refusal 9 0 0) 0 0 0 → Answered (replyOf p stream) xs xs v
+  unfolding replyOf badTileText refusedWith nothing
+  answered-bad h e = rw (ne-eqb _ _ h) (nothing-painted (refusal 9 0 0) xs v e)
+
+  module _ (whole : p .line ≡ 4) where
+    pub answered-refused : (r : Refusal) → refused r ≡ sizeOf (checked (p .bpp) (p .width) (p .height)) → v ≡ fieldsOf 0 r 0 0 0
+        → Answered (replyOf p stream) xs xs v
+    unfolding replyOf decoded result limited
+    answered-refused r s e =
+        rw (eq-eqb _ _ whole, ← s, away-result (checked (p .bpp) (p .width) (p .height)) r (take (p .count) stream) s) (nothing-painted r xs v e)
+
+    module _ (n : ℕ) (size : bytes n ≡ sizeOf (checked (p .bpp) (p .width) (p .height))) where
+      pub answered-picture : 65536 < n → v ≡ fieldsOf 0 (refusal 10 0 0) 0 0 0 → Answered (replyOf p stream) xs xs v
+      unfolding replyOf tileTooLarge refusedWith nothing
+      answered-picture h e =
+          rw (eq-eqb _ _ whole, fit-limited _ n (p .count) (decoded p stream) size, lt-ltb _ _ h) (nothing-painted (refusal 10 0 0) xs v e)
+
+      pub answered-stream : n ≤ 65536 → 8192 < p .count → v ≡ fieldsOf 0 (refusal 10 0 0) 0 0 0 → Answered (replyOf p stream) xs xs v
+      unfolding replyOf tileTooLarge refusedWith nothing
+      answered-stream h g e =
+          rw (eq-eqb _ _ whole, fit-limited _ n (p .count) (decoded p stream) size, le-ltb _ _ h, lt-ltb _ _ g) (nothing-painted (refusal 10 0 0) xs v e)
+
+      pub answered-decoded : {ys : List ℕ} → n ≤ 65536 → p .count ≤ 8192 → Answered (decoded p stream) xs ys v → Answered (replyOf p stream) xs ys v
+      unfolding replyOf
+      answered-decoded h g a =
+          rw (eq-eqb _ _ whole, fit-limited _ n (p .count) (decoded p stream) size, le-ltb _ _ h, le-ltb _ _ g) a
+
+-- ---- decoding
+
+-- a picture that fits meets no refusal 4
+fit-space : (c : Checked) (n given : ℕ) → bytes n ≡ sizeOf c → n ≤ given → withSpace given c ≡ c
+unfolding sizeOf withSpace
+fit-space (away r) n given e h = unlike cc
+fit-space (fit f k) n given e h =
+    let same : n ≡ f .total * f .bytes = cc in
+    rw (le-ltb given (f .total * f .bytes) (subst (λ (m : ℕ). m ≤ given) same h))
+
+past-away : (t : Bool) (r : Refusal) (c : Checked) (n : ℕ) → bytes n ≡ sizeOf (pick t (away r) c) → pick t (away r) c ≡ c
+unfolding sizeOf
+past-away true r c n e = unlike cc
+past-away false r c n e = refl
+
+-- sizes that are not refused have the depth's frame
+fit-frame : (b w h n : ℕ) → bytes n ≡ sizeOf (checked b w h) → checked b w h ≡ fitOf (depthOf b) w h
+unfolding checked
+fit-frame b w h n e =
+    let t₁ = past-away (leb 4 (depthIndex b)) (refusal 1 b 0) _ n e in
+    let e₂ = e ∙ ap sizeOf t₁ in
+    let t₂ = past-away (eqb w 0) (refusal 2 0 0) _ n e₂ in
+    let e₃ = e₂ ∙ ap sizeOf t₂ in
+    let t₃ = past-away (eqb h 0) (refusal 2 0 0) _ n e₃ in
+    let e₄ = e₃ ∙ ap sizeOf t₃ in
+    let t₄ = past-away (ltb 8192 w) (refusal 3 w h) _ n e₄ in
+    let e₅ = e₄ ∙ ap sizeOf t₄ in
+    t₁ ∙ t₂ ∙ t₃ ∙ t₄ ∙ past-away (ltb 8192 h) (refusal 3 w h) _ n e₅
+
+run-bytes : (f : Frame) (k : ℕ) (r : Run) → ofRun f k r .bytes ≡ f .bytes
+unfolding ofRun resultOf
+run-bytes f k (ended s) = refl
+run-bytes f k (paused s) = refl
+run-bytes f k (stopped r s) = refl
+
+fit-bytes : (b w h n : ℕ) (stream : List ℕ) → bytes n ≡ sizeOf (checked b w h) → result stream b w h .bytes ≡ depthOf b .bytes
+unfolding result ofChecked fitOf
+fit-bytes b w h n stream e = rw (fit-frame b w h n e) (run-bytes _ _ (decode _ stream))
+
+module _ (p : Parser) (stream before after : List ℕ) (n : ℕ) (r : Report) (within : Within p stream before n) where
+  decodes : Decompresses (take (p .count) stream) before after r (resultIn (length before) (take (p .count) stream) (p .bpp) (p .width) (p .height))
+      → Decompresses (take (p .count) stream) before after r (decoded p stream)
+  unfolding resultIn decoded result
+  decodes d =
+      let g : n ≤ length before = omega (arith, within .small, within .space) in
+      rw (fit-space (checked (p .bpp) (p .width) (p .height)) n (length before) (within .size) g) at d
+
+  module _ (D : ℕ) (depth : D ≡ depthOf (p .bpp) .bytes) (same : length after ≡ length before)
+      (d : Decompresses (take (p .count) stream) before after r (resultIn (length before) (take (p .count) stream) (p .bpp) (p .width) (p .height))) where
+    -- the painted bytes are D for each pixel
+    painted-bytes : length (bytesOf (decoded p stream .bytes) (decoded p stream .painted)) ≡ r .pixels * D
+    unfolding decoded
+    painted-bytes =
+        decodes d .painted
+        ∙ rw (fit-bytes (p .bpp) (p .width) (p .height) n (take (p .count) stream) (within .size), ← depth, ← decodes d .pixels)
+
+    pub painted-fit : r .pixels * D ≤ 65536
+    painted-fit =
+        let e = decodes d in
+        let q = decoded p stream in
+        let bs = bytesOf (q .bytes) (q .painted) in
+        let l : length after ≡ length bs + (length before - length (q .painted) * q .bytes) =
+        ap length (e .target) ∙ simp (length-append, length-drop)
+        in
+        omega (arith, l, painted-bytes, e .painted, within .space, same)
+
+    pub decode-answered : (v : Fields)
+        → v ≡ fieldsOf (formatIn (r .outcome)) (refusalIn (r .outcome)) (r .orders) (r .pixels) (r .pixels * D)
+        → Answered (decoded p stream) before after v
+    decode-answered v h =
+        let e = decodes d in
+        record {
+          fields = h ∙ rw (← painted-bytes, e .format, e .refusal, e .orders, e .pixels);
+          target = e .target;
+          fits = rw painted-bytes painted-fit;
+        }
+
+-- ---- the lines
+
+pub same-lines : (e : Result) (before after : List ℕ) (v : Fields) → Answered e before after v → linesWith v after ≡ linesOf e
+unfolding linesWith linesOf
+same-lines e before after v a = rw (a .fields, a .target, take-append-seam)
+
+pub replied : {e : Result} {before after out out' : List ℕ} {v : Fields} {r : ℕ} → Answered e before after v
+    → Writes out 0 (linesWith v after) out' r → r ≤ 131328 → length out ≡ 131328 → Replies e before after out out' r
+replied {e} {before} {after} {out} {out'} {v} {r} a w h space =
+    let w' = writes-as (same-lines e before after v a) w in
+    let c : r ≡ length (linesOf e) = omega (arith, w' .place) in
+    record { count = c; fits = h; out = from-start w' (omega arith); target = a .target }

@@ -1,0 +1,69 @@
+-- `feed` meets its contract. The invariant: the state and the array are those after the bytes passed. Assumes nothing.
+use mathlib.Core.Path.{_≡_, refl}
+use Prim.Native.Nat.{_≤_, _-_}
+use lib.ListN.{length, take}
+use lib.Seq.{take-all}
+use Rattle.tile_text.specs.Parse.{fed, fedInto, step}
+use Rattle.tile_text.proofs.Fold.{fed-more, into-more}
+use borrow.Author.Needs.{needs}
+use native.Mathlib.Omega.{arith}
+use Rattle.tile_text.proofs.parser.feed.Statement.{statement}
+use Rattle.tile_text.proofs.parser.feed.Tie as tie
+
+abbrev Inv-loop : tie.InvT-loop
+Inv-loop chunk stream₀ q₀ i₀ stream q i = (i ≤ length chunk) × (q ≡ fed q₀ (take i chunk)) × (stream ≡ fedInto q₀ stream₀ (take i chunk))
+
+abbrev μ-loop : tie.MeasureT-loop
+μ-loop chunk stream₀ q₀ i₀ stream q i = length chunk - i
+
+loop-holds : tie.Need-loop-holds Inv-loop μ-loop
+unfolding fed fedInto
+loop-holds c = (search needs, refl, refl)
+
+shared-slice-read-wide : tie.Need-shared-slice-read-wide Inv-loop μ-loop
+shared-slice-read-wide c = search needs
+
+wide-requires : tie.Need-wide-requires Inv-loop μ-loop
+wide-requires c κs = search needs
+
+store-requires : tie.Need-store-requires Inv-loop μ-loop
+store-requires c κs = search needs
+
+step-requires : tie.Need-step-requires Inv-loop μ-loop
+step-requires c κs = search needs
+
+add-i : tie.Need-add-i Inv-loop μ-loop
+add-i c = search needs
+
+loop-less : tie.Need-loop-less Inv-loop μ-loop
+loop-less c = search needs
+
+loop-again : tie.Need-loop-again Inv-loop μ-loop
+loop-again c =
+    let l = c .before .before .before .before .before .before .loop in
+    let h = c .before .before .before .before .before .loop-test .taken in (
+      omega arith,
+      rw (fed-more _ _ (l .i) h, ← l .inv .1, ← c .before .before .before .wide .ensures .0) (c .step .ensures),
+      rw (into-more _ _ _ (l .i) h, ← l .inv .1, ← l .inv .2, ← c .before .before .before .wide .ensures .0) (c .before .store .ensures),
+    )
+
+returns : tie.Need-returns Inv-loop μ-loop
+returns c =
+    let e : take (c .before .loop .i) (c .before .before .before .args .chunk .now) ≡ c .before .before .before .args .chunk .now = take-all _ _ (c .loop-test .left) in
+    (rw e at (c .before .loop .inv .1), rw e at (c .before .loop .inv .2))
+
+pub feed-spec : {M : Type 1} → statement M
+feed-spec =
+    tie.close
+    (tie.spec
+    Inv-loop
+    μ-loop
+    loop-holds
+    shared-slice-read-wide
+    wide-requires
+    store-requires
+    step-requires
+    add-i
+    loop-less
+    loop-again
+    returns)

@@ -1,0 +1,55 @@
+-- `store` meets its contract: its tests are the definition's, and a digit is below 16. Assumes nothing.
+use mathlib.Core.Path.{sym, _∙_, subst}
+use Prim.Native.Nat.{ℕ, _<_}
+use Rattle.tile_text.proofs.Fold.{ending-digit, stored-in, stored-past, stored-not}
+use borrow.Author.Needs.{needs}
+use native.Mathlib.Omega.{arith}
+use Rattle.tile_text.proofs.parser.store.Statement.{statement}
+use Rattle.tile_text.proofs.parser.store.Tie as tie
+
+ends-byte-requires : tie.Need-ends-byte-requires
+ends-byte-requires c κs = search needs
+
+hex-value-requires : tie.Need-hex-value-requires
+hex-value-requires c κs = search needs
+
+mul-stream : tie.Need-mul-stream
+mul-stream c = search needs
+
+add-stream : tie.Need-add-stream
+add-stream c =
+    let e = sym (c .before .before .before .before .ends-byte .ensures) ∙ c .before .before .before .if1 .taken in
+    let d = subst (λ (x : ℕ). x < 16) (sym (c .before .before .hex-value .ensures)) (ending-digit _ _ e) in
+    omega arith
+
+cast-stream : tie.Need-cast-stream
+cast-stream c =
+    let e = sym (c .before .before .before .before .ends-byte .ensures) ∙ c .before .before .before .if1 .taken in
+    let d = subst (λ (x : ℕ). x < 16) (sym (c .before .before .hex-value .ensures)) (ending-digit _ _ e) in
+    omega arith
+
+element-write-stream : tie.Need-element-write-stream
+element-write-stream c = search needs
+
+returns : tie.Need-returns
+returns c = stored-in _ _ _ _ (sym (c .before .before .before .before .ends-byte .ensures) ∙ c .before .before .before .if1 .taken) (c .before .before .hex-value .ensures) (c .before .if2 .taken)
+
+returns-2 : tie.Need-returns-2
+returns-2 c = stored-past _ _ _ (sym (c .before .before .before .ends-byte .ensures) ∙ c .before .before .if1 .taken) (c .if2 .left)
+
+returns-3 : tie.Need-returns-3
+returns-3 c = stored-not _ _ _ (sym (c .before .ends-byte .ensures) ∙ c .if1 .left)
+
+pub store-spec : {M : Type 1} → statement M
+store-spec =
+    tie.close
+    (tie.spec
+    ends-byte-requires
+    hex-value-requires
+    mul-stream
+    add-stream
+    cast-stream
+    element-write-stream
+    returns
+    returns-2
+    returns-3)

@@ -1,0 +1,42 @@
+-- `put_format` meets its contract: the key, the name and a line feed, one after the other. Assumes nothing.
+use Rattle.tile_text.proofs.Writing.{writes-append}
+use Rattle.tile_text.specs.Text.{line}
+use Rattle.tile_text.specs.Answer.{formatKey}
+use borrow.Author.Needs.{needs}
+use native.Mathlib.Omega.{arith}
+use Rattle.tile_text.proofs.print.put_format.Statement.{statement}
+use Rattle.tile_text.proofs.print.put_format.Tie as tie
+
+slice-aggregate-put-bytes : tie.Need-slice-aggregate-put-bytes
+slice-aggregate-put-bytes c = search needs
+
+put-bytes-requires : tie.Need-put-bytes-requires
+put-bytes-requires c κs = search needs
+
+put-name-requires : tie.Need-put-name-requires
+put-name-requires c κs = search needs
+
+slice-aggregate-put-bytes-2 : tie.Need-slice-aggregate-put-bytes-2
+slice-aggregate-put-bytes-2 c = search needs
+
+put-bytes-requires-2 : tie.Need-put-bytes-requires-2
+put-bytes-requires-2 c κs = search needs
+
+returns : tie.Need-returns
+unfolding line formatKey
+returns c =
+    let w = c .put-bytes2 .ensures in (
+      writes-append (c .before .before .before .before .before .put-bytes .ensures) (writes-append (c .before .before .before .put-name .ensures .0) w),
+      (omega (arith, w .place), c .before .before .before .before .before .before .put-bytes-arg2 .given .0 .1),
+    )
+
+pub put-format-spec : {M : Type 1} → statement M
+put-format-spec =
+    tie.close
+    (tie.spec
+    slice-aggregate-put-bytes
+    put-bytes-requires
+    put-name-requires
+    slice-aggregate-put-bytes-2
+    put-bytes-requires-2
+    returns)

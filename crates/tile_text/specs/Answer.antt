@@ -1,0 +1,90 @@
+-- The answer to a tile text: which text is refused with 9, which tile with 10, what the decoder answers to the others, and
+-- the seven lines in which it is printed. `Answers` is what the program is for: a text is some tile's and has that tile's answer, or
+-- it is no tile's and is refused.
+use mathlib.Core.Path.{_≡_}
+use mathlib.Core.List.{List, [], _∷_, _++_}
+use Prim.Native.Nat.{ℕ}
+use lib.Dec.{ltb, eqb}
+use lib.ListN.{length}
+use Rattle.rle.specs.Pixels.{pick, bytesOf}
+use Rattle.rle.specs.Orders.{refusal}
+use Rattle.rle.specs.Decode.{Result, checked, result}
+use Rattle.rle.specs.Report.{Size, bytes, refused, sizeOf}
+use Rattle.tile_text.specs.Text.{decimal, hexPairs, line, textOf, Tile}
+
+-- 9 and 10 decode nothing: their numbers and counts are 0, and no byte is painted
+unfoldable pub refusedWith : ℕ → Result
+refusedWith n = record { refusal = refusal n 0 0; format = 0; bytes = 0; painted = []; orders = 0 }
+
+unfoldable pub badTileText : Result
+unfolding refusedWith
+badTileText = refusedWith 9
+
+unfoldable pub tileTooLarge : Result
+unfolding refusedWith
+tileTooLarge = refusedWith 10
+
+-- the decoder's 1 to 3 stay; then 10 where the picture is over 65,536 bytes or the stream over 8,192; else what decoding gives
+unfoldable pub limited : Size → ℕ → Result → Result
+limited (refused r) streamBytes e = e
+limited (bytes n) streamBytes e = pick (ltb 65536 n) tileTooLarge (pick (ltb 8192 streamBytes) tileTooLarge e)
+
+unfoldable pub answerOf : ℕ → ℕ → ℕ → List ℕ → Result
+answerOf w h b stream = limited (sizeOf (checked b w h)) (length stream) (result stream b w h)
+
+-- ---- the seven lines
+
+-- `Rgb8`, `Rgb15`, `Rgb16`, `Rgb24` by the bits of a pixel, else `none`
+unfoldable pub formatName : ℕ → List ℕ
+formatName k =
+    pick (eqb k 8) (82 ∷ 103 ∷ 98 ∷ 56 ∷ [])
+    (pick (eqb k 15) (82 ∷ 103 ∷ 98 ∷ 49 ∷ 53 ∷ [])
+    (pick (eqb k 16) (82 ∷ 103 ∷ 98 ∷ 49 ∷ 54 ∷ [])
+    (pick (eqb k 24) (82 ∷ 103 ∷ 98 ∷ 50 ∷ 52 ∷ []) (110 ∷ 111 ∷ 110 ∷ 101 ∷ []))))
+
+-- `format=`, `refusal=`, `first=`, `second=`, `orders=`, `pixels=`, `painted=`
+unfoldable pub formatKey : List ℕ
+formatKey = 102 ∷ 111 ∷ 114 ∷ 109 ∷ 97 ∷ 116 ∷ 61 ∷ []
+
+unfoldable pub refusalKey : List ℕ
+refusalKey = 114 ∷ 101 ∷ 102 ∷ 117 ∷ 115 ∷ 97 ∷ 108 ∷ 61 ∷ []
+
+unfoldable pub firstKey : List ℕ
+firstKey = 102 ∷ 105 ∷ 114 ∷ 115 ∷ 116 ∷ 61 ∷ []
+
+unfoldable pub secondKey : List ℕ
+secondKey = 115 ∷ 101 ∷ 99 ∷ 111 ∷ 110 ∷ 100 ∷ 61 ∷ []
+
+unfoldable pub ordersKey : List ℕ
+ordersKey = 111 ∷ 114 ∷ 100 ∷ 101 ∷ 114 ∷ 115 ∷ 61 ∷ []
+
+unfoldable pub pixelsKey : List ℕ
+pixelsKey = 112 ∷ 105 ∷ 120 ∷ 101 ∷ 108 ∷ 115 ∷ 61 ∷ []
+
+unfoldable pub paintedKey : List ℕ
+paintedKey = 112 ∷ 97 ∷ 105 ∷ 110 ∷ 116 ∷ 101 ∷ 100 ∷ 61 ∷ []
+
+-- the lines of the format, the refusal's number, its first and second, the orders and the pixels
+unfoldable pub counts : ℕ → ℕ → ℕ → ℕ → ℕ → ℕ → List ℕ
+counts format number first second orders pixels =
+    line formatKey (formatName format)
+    ++ (line refusalKey (decimal number)
+    ++ (line firstKey (decimal first)
+    ++ (line secondKey (decimal second) ++ (line ordersKey (decimal orders) ++ line pixelsKey (decimal pixels)))))
+
+-- and of the painted bytes
+unfoldable pub lines : ℕ → ℕ → ℕ → ℕ → ℕ → ℕ → List ℕ → List ℕ
+lines format number first second orders pixels painted =
+    counts format number first second orders pixels ++ line paintedKey (hexPairs painted)
+
+unfoldable pub linesOf : Result → List ℕ
+linesOf e =
+    lines (e .format) (e .refusal .number) (e .refusal .first) (e .refusal .second) (e .orders) (length (e .painted))
+    (bytesOf (e .bytes) (e .painted))
+
+-- ---- the answer to a text
+
+-- a text that is some tile's has that tile's answer; one that is no tile's is refused with 9
+pub data Answers (text : List ℕ) (e : Result) : Type 0 where
+  tile : (w h b : ℕ) (stream : List ℕ) → Tile w h b stream → text ≡ textOf w h b stream → e ≡ answerOf w h b stream → Answers text e
+  noTile : ((w h b : ℕ) (stream : List ℕ) → Tile w h b stream → text ≡ textOf w h b stream → ⊥) → e ≡ badTileText → Answers text e

@@ -1,0 +1,121 @@
+-- Reading a tile text one byte at a time, by a state of a few numbers and an array for the stream's first 8,192 bytes: what `feed`
+-- computes, for every state. `proofs/Inverse.antt` shows that it undoes `textOf`: a state reached from the start has read the whole
+-- text exactly if the text is some tile's.
+use mathlib.Core.List.{List, [], _∷_}
+use mathlib.Core.Bool.{Bool, true, false}
+use Prim.Native.Nat.{ℕ, _+_, _-_, _*_, _%_}
+use lib.Dec.{ltb, leb, eqb}
+use lib.ListN.{getD, set}
+use Rattle.rle.specs.Pixels.{pick}
+use Rattle.tile_text.specs.Text.{widthKey, heightKey, bppKey, streamKey}
+use Rattle.tile_text.specs.declared.parser.Parser.{Parser}
+
+-- the lines' keys; line 4: the text is read whole; line 5: it is no tile text
+unfoldable pub keys : List (List ℕ)
+keys = widthKey ∷ heightKey ∷ bppKey ∷ streamKey ∷ []
+
+-- the byte at a place of a line's key; 0: the key is read
+unfoldable pub keyByte : ℕ → ℕ → ℕ
+keyByte l place = getD (getD keys l []) place 0
+
+-- the value of a decimal digit; 16: it is none
+unfoldable pub decimalValue : ℕ → ℕ
+decimalValue b = pick (ltb b 48) 16 (pick (ltb 57 b) 16 (b - 48))
+
+-- the value of a lower-case hexadecimal digit; 16: it is none
+unfoldable pub hexValue : ℕ → ℕ
+hexValue b = pick (leb b 57) (decimalValue b) (pick (ltb b 97) 16 (pick (ltb 102 b) 16 (b - 87)))
+
+abbrev pub start : Parser
+start = record { line = 0; place = 0; begun = false; value = 0; width = 0; height = 0; bpp = 0; count = 0 }
+
+-- no tile text, whatever comes
+unfoldable pub bad : Parser → Parser
+bad p =
+    record { line = 5; place = p .place; begun = p .begun; value = p .value; width = p .width; height = p .height; bpp = p .bpp; count = p .count }
+
+abbrev pub keyRead : Parser → Parser
+keyRead p =
+    record { line = p .line; place = p .place + 1; begun = p .begun; value = p .value; width = p .width; height = p .height; bpp = p .bpp; count = p .count }
+
+-- a digit of a number or of a byte is read, and its value so far is v
+abbrev pub withValue : Bool → ℕ → Parser → Parser
+withValue begun v p =
+    record { line = p .line; place = p .place; begun = begun; value = v; width = p .width; height = p .height; bpp = p .bpp; count = p .count }
+
+-- the next line starts
+abbrev pub nextLine : Parser → ℕ → ℕ → ℕ → Parser
+nextLine p w h b =
+    record { line = p .line + 1; place = 0; begun = false; value = 0; width = w; height = h; bpp = b; count = p .count }
+
+-- the line of a number ends: line 0 has the width, 1 the height, 2 the depth
+unfoldable pub endNumber : Parser → Parser
+endNumber p =
+    pick (eqb (p .line) 0) (nextLine p (p .value) (p .height) (p .bpp))
+    (pick (eqb (p .line) 1) (nextLine p (p .width) (p .value) (p .bpp)) (nextLine p (p .width) (p .height) (p .value)))
+
+-- the stream's line ends, and with it the text
+abbrev pub endStream : Parser → Parser
+endStream p =
+    record { line = 4; place = p .place; begun = p .begun; value = p .value; width = p .width; height = p .height; bpp = p .bpp; count = p .count }
+
+-- a byte of the stream is read; the count stays at 8,193
+unfoldable pub byteRead : Parser → Parser
+byteRead p =
+    record {
+      line = p .line;
+      place = p .place;
+      begun = false;
+      value = 0;
+      width = p .width;
+      height = p .height;
+      bpp = p .bpp;
+      count = pick (ltb (p .count) 8193) (p .count + 1) (p .count);
+    }
+
+-- a number goes on where no digit is read, or digits below 10,000,000 that aren't 0 alone
+unfoldable pub goesOn : Parser → Bool
+goesOn p = pick (p .begun) (pick (eqb (p .value) 0) false (ltb (p .value) 10_000_000)) true
+
+unfoldable pub numberDigit : Parser → ℕ → Parser
+numberDigit p d = withValue true (pick (p .begun) (p .value * 10 + d) d) p
+
+unfoldable pub numberStep : Parser → ℕ → Parser
+numberStep p b =
+    pick (eqb b 10) (pick (p .begun) (endNumber p) (bad p))
+    (pick (ltb (decimalValue b) 16) (pick (goesOn p) (numberDigit p (decimalValue b)) (bad p)) (bad p))
+
+unfoldable pub streamStep : Parser → ℕ → Parser
+streamStep p b =
+    pick (eqb b 10) (pick (p .begun) (bad p) (endStream p))
+    (pick (ltb (hexValue b) 16) (pick (p .begun) (byteRead p) (withValue true (hexValue b) p)) (bad p))
+
+unfoldable pub keyStep : Parser → ℕ → Parser
+keyStep p b = pick (eqb b (keyByte (p .line) (p .place))) (keyRead p) (bad p)
+
+-- the state after the byte b
+unfoldable pub step : Parser → ℕ → Parser
+step p b =
+    pick (ltb 0 (keyByte (p .line) (p .place))) (keyStep p b)
+    (pick (ltb (p .line) 3) (numberStep p b) (pick (eqb (p .line) 3) (streamStep p b) (bad p)))
+
+-- the byte b is the second digit of a byte of the stream
+unfoldable pub endsByte : Parser → ℕ → Bool
+endsByte p b =
+    pick (ltb 0 (keyByte (p .line) (p .place))) false
+    (pick (eqb (p .line) 3) (pick (p .begun) (ltb (hexValue b) 16) false) false)
+
+-- the stream's array after the byte b; from 8,192 bytes on nothing is stored
+unfoldable pub stored : Parser → List ℕ → ℕ → List ℕ
+stored p xs b =
+    pick (endsByte p b) (pick (ltb (p .count) 8192) (set xs (p .count) (p .value % 16 * 16 + hexValue b)) xs) xs
+
+-- the state after the bytes t
+unfoldable pub fed : Parser → List ℕ → Parser
+fed p [] = p
+fed p (b ∷ t) = fed (step p b) t
+
+-- the stream's array after the bytes t
+unfoldable pub fedInto : Parser → List ℕ → List ℕ → List ℕ
+fedInto p xs [] = xs
+fedInto p xs (b ∷ t) = fedInto (step p b) (stored p xs b) t

@@ -1,0 +1,141 @@
+// The answer to a tile text: decoding within the limits, and the seven lines.
+ghost use mathlib.Core.Path.{_≡_};
+ghost use Prim.Native.Nat.{_≤_};
+ghost use lib.ListN.{length};
+ghost use Rattle.rle.specs.Orders.{refusal};
+ghost use Rattle.rle.specs.Report.{formatIn, refusalIn};
+ghost use Rattle.tile_text.specs.Written.{Writes};
+ghost use Rattle.tile_text.specs.Reply.{decoded, replyOf, fieldsOf, countsOf, linesWith, Within, Answered, Replies, RepliesTo};
+use crate::parser::Parser;
+use crate::parser::STREAM_LIMIT;
+use crate::parser::WHOLE;
+use crate::parser::feed;
+use crate::parser::start;
+use crate::print::put_format;
+use crate::print::put_number;
+use crate::print::put_painted;
+use rle::Outcome;
+use rle::PictureSize;
+
+// The most bytes of a picture that is decoded.
+const PICTURE_LIMIT: usize = 65536;
+
+// The values of the seven lines; of the painted bytes, how many.
+pub(crate) struct Fields {
+    pub format: usize,
+    pub refusal: usize,
+    pub first: usize,
+    pub second: usize,
+    pub orders: usize,
+    pub pixels: usize,
+    pub painted: usize,
+}
+
+// 9 and 10 decode nothing: all but their number is 0.
+fn refusal_fields(number: usize) -> Fields
+    ensures { λ r. ⌜ r ≡ fieldsOf 0 (refusal number 0 0) 0 0 0 ⌝ }
+{
+    Fields {
+        format: 0,
+        refusal: number,
+        first: 0,
+        second: 0,
+        orders: 0,
+        pixels: 0,
+        painted: 0,
+    }
+}
+
+fn outcome_fields(o: Outcome, orders: usize, pixels: usize, painted: usize) -> Fields
+    ensures { λ r. ⌜ r ≡ fieldsOf (formatIn o) (refusalIn o) orders pixels painted ⌝ }
+{
+    let n = rle::numbers_of(o);
+    Fields {
+        format: n.format,
+        refusal: n.refusal,
+        first: n.first,
+        second: n.second,
+        orders,
+        pixels,
+        painted,
+    }
+}
+
+fn put_counts(v: Fields, out: &mut [u8; 131328]) -> usize
+    ensures { λ r. ⌜ Writes (now (out .entry)) 0 (countsOf v) (now (out .exit)) r ⌝ }
+    ensures { λ r. ⌜ (r ≤ 153) × (length (now (out .entry)) ≡ 131328) ⌝ }
+{
+    let a = put_format(v.format, out, 0);
+    let b = put_number(b"refusal=", v.refusal, out, a);
+    let c = put_number(b"first=", v.first, out, b);
+    let d = put_number(b"second=", v.second, out, c);
+    let e = put_number(b"orders=", v.orders, out, d);
+    put_number(b"pixels=", v.pixels, out, e)
+}
+
+// The seven lines, the painted bytes from the first of the target on.
+fn put_lines(v: Fields, target: &[u8; 65536], out: &mut [u8; 131328]) -> usize
+    requires { ⌜ v .painted ≤ 65536 ⌝ }
+    ensures { λ r. ⌜ Writes (now (out .entry)) 0 (linesWith v (now (target .entry))) (now (out .exit)) r ⌝ }
+    ensures { λ r. ⌜ (r ≤ 131328) × (length (now (out .entry)) ≡ 131328) ⌝ }
+{
+    let painted = v.painted;
+    let at = put_counts(v, out);
+    put_painted(target, painted, out, at)
+}
+
+// Decodes a tile that is within the limits.
+fn decode(p: Parser, stream: &[u8], target: &mut [u8], size: usize) -> Fields
+    requires { ⌜ Within p (now stream) (now target) size ⌝ }
+    ensures { λ r. ⌜ Answered (decoded p (now (stream .entry))) (now (target .entry)) (now (target .exit)) r ⌝ }
+{
+    let count = p.count;
+    let report = rle::decompress(&stream[..count], target, p.width, p.height, p.bpp);
+    let painted = report.pixels * rle::bytes_per_pixel(p.bpp);
+    let outcome = report.outcome;
+    outcome_fields(outcome, report.orders, report.pixels, painted)
+}
+
+// 9 comes before the decoder's 1 to 3, and these before 10.
+fn answer(p: Parser, stream: &[u8; 8192], target: &mut [u8; 65536]) -> Fields
+    ensures { λ r. ⌜ Answered (replyOf p (now (stream .entry))) (now (target .entry)) (now (target .exit)) r ⌝ }
+{
+    if p.line != WHOLE {
+        return refusal_fields(9);
+    }
+    let size = rle::picture_size(p.width, p.height, p.bpp);
+    match size {
+        PictureSize::Refused(e) => outcome_fields(Outcome::Err(e), 0, 0, 0),
+        PictureSize::Bytes(n) => {
+            if PICTURE_LIMIT < n {
+                return refusal_fields(10);
+            }
+            if STREAM_LIMIT < p.count {
+                return refusal_fields(10);
+            }
+            decode(p, stream, target, n)
+        }
+    }
+}
+
+// Writes the answer from the first byte of `out` on, and says how many bytes it has. The painted bytes are in `target`.
+pub fn reply(
+    p: Parser,
+    stream: &[u8; 8192],
+    target: &mut [u8; 65536],
+    out: &mut [u8; 131328],
+) -> usize
+    ensures { λ r. ⌜ Replies (replyOf p (now (stream .entry))) (now (target .entry)) (now (target .exit)) (now (out .entry)) (now (out .exit)) r ⌝ }
+{
+    let v = answer(p, stream, target);
+    put_lines(v, target, out)
+}
+
+// The same for a text that stands in one slice.
+pub fn reply_to(text: &[u8], target: &mut [u8; 65536], out: &mut [u8; 131328]) -> usize
+    ensures { λ r. ⌜ RepliesTo (now (text .entry)) (now (target .entry)) (now (target .exit)) (now (out .entry)) (now (out .exit)) r ⌝ }
+{
+    let mut stream = [0u8; 8192];
+    let p = feed(start(), text, &mut stream);
+    reply(p, &stream, target, out)
+}
