@@ -1,0 +1,191 @@
+// Decodes the streams of the file data/answers and compares each answer with the one that is stored beside it.
+//
+// A record: width, height, bpp, then the stored answer: format (0: none), refusal (0: none), its two values, pixels, orders, and the
+// checksum of the target, which is preset to 0x55 and as long as the picture (64 bytes where there is no picture); then the stream's
+// length and the stream. Each number is four bytes, low byte first.
+ghost use Prim.Native.Nat.{_<_, _≤_};
+ghost use lib.ListN.{length};
+use libc::STDOUT_FILENO;
+
+struct Picture {
+    width: usize,
+    height: usize,
+    bpp: usize,
+}
+
+// What one call answers, as numbers, and the checksum of its target.
+struct Answer {
+    format: usize,
+    refusal: usize,
+    first: usize,
+    second: usize,
+    pixels: usize,
+    orders: usize,
+    sum: usize,
+}
+
+struct Tally {
+    streams: usize,
+    differ: usize,
+}
+
+fn widen(x: u8) -> usize
+    ensures { λ r. ⌜ r < 256 ⌝ }
+{
+    x as usize
+}
+
+fn byte_at(s: &[u8], at: usize) -> usize
+    ensures { λ r. ⌜ r < 256 ⌝ }
+{
+    if at < s.len() {
+        return widen(s[at]);
+    }
+    0
+}
+
+// The number of four bytes from `at` on; bytes past the end count as 0.
+fn number_at(s: &[u8], at: usize) -> usize
+    requires { ⌜ at < 1048576 ⌝ }
+    ensures { λ r. ⌜ r < 4294967296 ⌝ }
+{
+    byte_at(s, at)
+        + byte_at(s, at + 1) * 256
+        + byte_at(s, at + 2) * 65536
+        + byte_at(s, at + 3) * 16777216
+}
+
+fn preset(target: &mut [u8]) {
+    let mut i = 0;
+    while i < target.len() {
+        target[i] = 0x55;
+        i += 1;
+    }
+}
+
+// A polynomial of the bytes, modulo the largest prime below 2^32.
+fn checksum(target: &[u8]) -> usize {
+    let mut sum = 0;
+    let mut i = 0;
+    while i < target.len() {
+        sum = (sum * 16777619 + widen(target[i]) + 1) % 4294967291;
+        i += 1;
+    }
+    sum
+}
+
+fn target_len(p: Picture) -> usize {
+    let size = rle::picture_size(p.width, p.height, p.bpp);
+    match size {
+        rle::PictureSize::Bytes(n) => n,
+        rle::PictureSize::Refused(_) => 64,
+    }
+}
+
+// What a record stores: the picture, and the answer.
+fn picture_at(records: &[u8], at: usize) -> Picture
+    requires { ⌜ at < 524288 ⌝ }
+{
+    Picture {
+        width: number_at(records, at),
+        height: number_at(records, at + 4),
+        bpp: number_at(records, at + 8),
+    }
+}
+
+fn answer_at(records: &[u8], at: usize) -> Answer
+    requires { ⌜ at < 524288 ⌝ }
+{
+    Answer {
+        format: number_at(records, at + 12),
+        refusal: number_at(records, at + 16),
+        first: number_at(records, at + 20),
+        second: number_at(records, at + 24),
+        pixels: number_at(records, at + 28),
+        orders: number_at(records, at + 32),
+        sum: number_at(records, at + 36),
+    }
+}
+
+fn same(a: Answer, b: Answer) -> bool {
+    a.format == b.format
+        && a.refusal == b.refusal
+        && a.first == b.first
+        && a.second == b.second
+        && a.pixels == b.pixels
+        && a.orders == b.orders
+        && a.sum == b.sum
+}
+
+// What decoding answers, in a target that is preset first.
+fn decoded(stream: &[u8], target: &mut [u8], p: Picture) -> Answer {
+    preset(target);
+    let r = rle::decompress(stream, target, p.width, p.height, p.bpp);
+    let o = r.outcome;
+    let n = rle::numbers_of(o);
+    Answer {
+        format: n.format,
+        refusal: n.refusal,
+        first: n.first,
+        second: n.second,
+        pixels: r.pixels,
+        orders: r.orders,
+        sum: checksum(target),
+    }
+}
+
+// Whether the record at `at`, whose stream is given, is answered as stored.
+fn agrees(records: &[u8], at: usize, stream: &[u8], target: &mut [u8]) -> bool
+    requires { ⌜ at < 524288 ⌝ }
+{
+    let p = picture_at(records, at);
+    let n = target_len(p);
+    if target.len() < n {
+        return false;
+    }
+    let a = decoded(stream, &mut target[..n], p);
+    same(a, answer_at(records, at))
+}
+
+// All records; one that is cut off counts as differing.
+fn replay(records: &[u8], target: &mut [u8]) -> Tally
+    requires { ⌜ length (now records) ≤ 262144 ⌝ }
+{
+    let mut tally = Tally {
+        streams: 0,
+        differ: 0,
+    };
+    let mut at = 0;
+    while at < records.len() {
+        let start = at + 44;
+        let end = start + number_at(records, at + 40);
+        tally.streams = tally.streams + 1;
+        if records.len() < end {
+            tally.differ = tally.differ + 1;
+            return tally;
+        }
+        if !agrees(records, at, &records[start..end], target) {
+            tally.differ = tally.differ + 1;
+        }
+        at = end;
+    }
+    tally
+}
+
+fn main() {
+    let path = b"answers";
+    let fd = os::open_read(path);
+    if fd < 0 {
+        os::fail(path);
+        return;
+    }
+    let mut data = [0u8; 262144];
+    let n = io::read_full(fd, &mut data);
+    libc::close(fd);
+    let mut target = [0u8; 65536];
+    let tally = replay(&data[..n], &mut target);
+    io::print_decimal(STDOUT_FILENO, tally.streams as u64);
+    io::write_all(STDOUT_FILENO, b" streams, ");
+    io::print_decimal(STDOUT_FILENO, tally.differ as u64);
+    io::write_all(STDOUT_FILENO, b" differ\n");
+}

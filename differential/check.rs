@@ -1,0 +1,203 @@
+//! Holds the library to the oracle, and to its own contract where the oracle has no answer.
+
+use crate::answer::{of_library, of_oracle, of_package, refused, Answer, Report};
+use crate::case::Case;
+
+/// What is looked at beside the answer and the bytes of a target of the picture's length.
+#[derive(Clone, Copy, PartialEq, Eq)]
+pub enum Effort {
+    /// Nothing more.
+    Basic,
+    /// The painted pixels, and targets of other lengths.
+    Targets,
+    /// Also the orders, by decoding every prefix of the stream.
+    Orders,
+}
+
+const GUARD: usize = 32;
+const GUARD_BYTE: u8 = 0xC3;
+const PRESETS: [u8; 2] = [0x55, 0xAA];
+/// Length of the targets where depth or sizes are refused.
+const ANY_LEN: usize = 64;
+
+/// A target between guard bytes.
+#[derive(Default)]
+struct Lent {
+    bytes: Vec<u8>,
+}
+
+impl Lent {
+    fn preset(&mut self, len: usize, value: u8) -> &mut [u8] {
+        self.bytes.clear();
+        self.bytes.resize(GUARD, GUARD_BYTE);
+        self.bytes.resize(GUARD + len, value);
+        self.bytes.resize(GUARD + len + GUARD, GUARD_BYTE);
+        &mut self.bytes[GUARD..GUARD + len]
+    }
+
+    fn target(&self) -> &[u8] {
+        &self.bytes[GUARD..self.bytes.len() - GUARD]
+    }
+
+    fn is_guarded(&self) -> bool {
+        let after = self.bytes.len() - GUARD;
+        let guards = self.bytes[..GUARD].iter().chain(&self.bytes[after..]);
+        guards.copied().all(|byte| byte == GUARD_BYTE)
+    }
+}
+
+/// Says what differs.
+type Checked = Result<(), String>;
+
+fn same<T: PartialEq + std::fmt::Debug>(what: &str, expected: T, found: T) -> Checked {
+    if expected == found {
+        return Ok(());
+    }
+    Err(format!("{what}: expected {expected:?}, found {found:?}"))
+}
+
+fn same_bytes(what: &str, expected: &[u8], found: &[u8]) -> Checked {
+    if expected == found {
+        return Ok(());
+    }
+    match expected.iter().zip(found).position(|(a, b)| a != b) {
+        None => same(what, expected.len(), found.len()),
+        Some(k) => Err(format!(
+            "{what}, byte {k}: expected {:02x}, found {:02x}",
+            expected[k], found[k]
+        )),
+    }
+}
+
+/// Compares the two decoders; the buffers are kept from case to case.
+#[derive(Default)]
+pub struct Checker {
+    lent: Lent,
+    oracle: [Vec<u8>; 2],
+}
+
+impl Checker {
+    pub fn check(&mut self, case: Case, effort: Effort) -> Checked {
+        let report = self.exact(case, 0)?;
+        if effort == Effort::Basic {
+            return Ok(());
+        }
+        let other = self.exact(case, 1)?;
+        same("reports over different old bytes", report, other)?;
+        self.painted(case, report)?;
+        for more in [1, 61] {
+            self.longer(case, report, more)?;
+        }
+        self.shorter(case, report)?;
+        if effort == Effort::Orders {
+            same("orders completed", self.orders(case), report.orders)?;
+        }
+        Ok(())
+    }
+
+    /// A target of the picture's length: the answer and every byte are the oracle's.
+    fn exact(&mut self, case: Case, preset: usize) -> Result<Report, String> {
+        let len = case.picture.len().unwrap_or(ANY_LEN);
+        let expected = &mut self.oracle[preset];
+        expected.clear();
+        expected.resize(len, PRESETS[preset]);
+        let answer = of_oracle(case, expected);
+        let report = of_library(case, self.lent.preset(len, PRESETS[preset]));
+        same("answer", answer, report.answer)?;
+        same_bytes("target", &self.oracle[preset], self.lent.target())?;
+        self.promised(case, report)?;
+        Ok(report)
+    }
+
+    /// What holds of every report.
+    fn promised(&self, case: Case, report: Report) -> Checked {
+        same("unused places of the report", [0, 0], report.unused)?;
+        let bounded =
+            report.orders <= report.pixels && report.pixels <= 26_214 * case.stream.len() as u64;
+        same("orders <= pixels <= 26214 * stream bytes", true, bounded)?;
+        same("guard bytes untouched", true, self.lent.is_guarded())
+    }
+
+    /// The bytes on which the oracle's two targets agree are the painted ones.
+    fn painted(&self, case: Case, report: Report) -> Checked {
+        let [first, second] = &self.oracle;
+        let painted = first.iter().zip(second).take_while(|(a, b)| a == b).count();
+        let pixel = case.picture.bytes_per_pixel().unwrap_or(1) as u64;
+        same("painted bytes", painted as u64, report.pixels * pixel)
+    }
+
+    /// A longer target gets the same report and painted bytes, and keeps all others.
+    fn longer(&mut self, case: Case, report: Report, more: usize) -> Checked {
+        let len = self.oracle[0].len();
+        let found = of_library(case, self.lent.preset(len + more, PRESETS[0]));
+        same("report with a longer target", report, found)?;
+        let (picture, rest) = self.lent.target().split_at(len);
+        same_bytes("longer target", &self.oracle[0], picture)?;
+        same(
+            "rest of a longer target untouched",
+            true,
+            rest.iter().all(|byte| *byte == PRESETS[0]),
+        )?;
+        self.promised(case, found)
+    }
+
+    /// Targets shorter than the picture; where depth or sizes are refused, any target.
+    fn shorter(&mut self, case: Case, report: Report) -> Checked {
+        match case.picture.len() {
+            Some(len) => [0, len / 2, len - 1]
+                .into_iter()
+                .try_for_each(|given| self.too_short(case, given)),
+            None => [0, 1]
+                .into_iter()
+                .try_for_each(|given| self.untouched(case, report.answer, given)),
+        }
+    }
+
+    /// A target shorter than the picture is refused before the stream is read.
+    pub fn too_short(&mut self, case: Case, given: usize) -> Checked {
+        match case.picture.len() {
+            Some(needed) if given < needed => {
+                self.untouched(case, refused(4, needed, given), given)
+            }
+            _ => Ok(()),
+        }
+    }
+
+    /// The library gives this answer with counts of 0 and changes no byte of the target.
+    fn untouched(&mut self, case: Case, answer: Answer, given: usize) -> Checked {
+        let report = of_library(case, self.lent.preset(given, PRESETS[1]));
+        same("answer before the stream is read", answer, report.answer)?;
+        same(
+            "counts before the stream is read",
+            (0, 0),
+            (report.pixels, report.orders),
+        )?;
+        let kept = self.lent.target().iter().all(|byte| *byte == PRESETS[1]);
+        same("target untouched", true, kept)?;
+        self.promised(case, report)
+    }
+
+    /// Each completed order makes exactly one nonempty prefix of the stream that is decoded.
+    fn orders(&mut self, case: Case) -> u64 {
+        let decoded = |end: &usize| {
+            let stream = &case.stream[..*end];
+            of_oracle(Case { stream, ..case }, &mut self.oracle[0]).refusal == 0
+        };
+        (1..=case.stream.len()).filter(decoded).count() as u64
+    }
+
+    /// The package's module and `rle.rs` leave the same vector, whatever its length was.
+    pub fn check_package(&mut self, case: Case, old_len: usize) -> Checked {
+        let [expected, found] = &mut self.oracle;
+        for target in [&mut *expected, &mut *found] {
+            target.clear();
+            target.resize(old_len, PRESETS[0]);
+        }
+        same(
+            "answer of the package",
+            of_oracle(case, expected),
+            of_package(case, found),
+        )?;
+        same_bytes("vector of the package", expected, found)
+    }
+}

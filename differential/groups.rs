@@ -1,0 +1,275 @@
+//! The groups of streams, and how many of each a mode takes.
+
+use crate::case::{Case, Picture, DEPTHS};
+use crate::check::{Checker, Effort};
+use crate::heap;
+use crate::shrink::Failure;
+use crate::streams::{bytes, damage, every_form, orders, picture, Random};
+use std::ops::RangeInclusive;
+use std::process::exit;
+
+#[derive(Clone, Copy, PartialEq, Eq)]
+pub enum Mode {
+    Short,
+    Long,
+    Valgrind,
+}
+
+type Sizes = [(usize, usize)];
+
+/// Sizes at which all streams of a few bytes are tried.
+const SMALL: [(usize, usize); 12] = [
+    (4, 2),
+    (40, 1),
+    (3, 11),
+    (20, 16),
+    (1, 1),
+    (1, 3),
+    (2, 2),
+    (5, 9),
+    (8, 4),
+    (16, 18),
+    (287, 1),
+    (33, 33),
+];
+
+/// Sides and depths near every limit, and some that are good if their high bits are lost.
+const SIDES: [usize; 13] = [
+    0,
+    1,
+    2,
+    4,
+    8191,
+    8192,
+    8193,
+    1 << 16,
+    (1 << 16) + 4,
+    1 << 32,
+    (1 << 32) + 4,
+    usize::MAX - 1,
+    usize::MAX,
+];
+const BPPS: [usize; 18] = [
+    0,
+    1,
+    7,
+    8,
+    9,
+    14,
+    15,
+    16,
+    17,
+    23,
+    24,
+    25,
+    32,
+    264,
+    65_544,
+    (1 << 32) + 8,
+    usize::MAX - 1,
+    usize::MAX,
+];
+
+pub struct Run {
+    mode: Mode,
+    random: Random,
+    checker: Checker,
+    streams: u64,
+}
+
+impl Run {
+    pub fn new(mode: Mode, seed: u64) -> Self {
+        Self {
+            mode,
+            random: Random::new(seed),
+            checker: Checker::default(),
+            streams: 0,
+        }
+    }
+
+    /// Runs every group of the mode; returns the number of streams.
+    pub fn all(mut self) -> u64 {
+        self.sizes_and_depths();
+        match self.mode {
+            Mode::Short => {
+                self.every_stream("every stream of up to 2 bytes", 0..=2, &SMALL[..4]);
+                self.every_form(1);
+                self.by_chance(100_000);
+                self.package(50_000);
+            }
+            Mode::Long => {
+                self.every_stream("every stream of up to 2 bytes", 0..=2, &SMALL);
+                self.every_stream("every stream of 3 bytes", 3..=3, &[(4, 2), (3, 11)]);
+                self.every_form(10);
+                self.by_chance(3_000_000);
+                self.package(500_000);
+            }
+            Mode::Valgrind => {
+                self.every_stream("every stream of up to 1 byte", 0..=1, &SMALL[..1]);
+                self.by_chance(3_000);
+            }
+        }
+        self.streams
+    }
+
+    fn every_stream(&mut self, name: &str, lengths: RangeInclusive<usize>, sizes: &Sizes) {
+        self.group(name, |run| {
+            for length in lengths {
+                for picture in with_depths(sizes) {
+                    for number in 0..1_u32 << (8 * length) {
+                        let stream = &number.to_be_bytes()[4 - length..];
+                        // Streams of three bytes are many: a sample of them has to do.
+                        let whole = length < 3 || number % 61 == 0;
+                        let effort = if whole { Effort::Orders } else { Effort::Basic };
+                        run.check(Case { stream, picture }, effort);
+                    }
+                }
+            }
+        });
+    }
+
+    /// Each order at the start of the first row and of the second, inside of both, with and without
+    /// an insert pending, in a picture whose end it reaches or just passes.
+    fn every_form(&mut self, times: usize) {
+        self.group("every form of orders", |run| {
+            for picture in with_depths(&[(5, 1), (16, 1), (31, 1)]).repeat(times) {
+                let row = 0x20 | picture.width as u8;
+                let starts: [&[u8]; 5] = [&[], &[0x01], &[row], &[row, 0x23], &[row, 0x22, 0x01]];
+                for order in every_form(&mut run.random, picture) {
+                    let height = 1 + order.pixels.div_ceil(picture.width);
+                    let picture = Picture { height, ..picture };
+                    for start in starts {
+                        let stream = &[start, &order.bytes, &[0x03]].concat();
+                        let short = stream.len() < 16;
+                        let effort = if short {
+                            Effort::Orders
+                        } else {
+                            Effort::Targets
+                        };
+                        run.check(Case { stream, picture }, effort);
+                    }
+                }
+            }
+        });
+    }
+
+    fn by_chance(&mut self, many: usize) {
+        self.group("orders by chance", |run| {
+            run.streams_by_chance(many, |_, _| ());
+        });
+        self.group("damaged orders", |run| {
+            run.streams_by_chance(many, damage);
+        });
+        self.group("bytes by chance", |run| {
+            run.streams_by_chance(many / 2, |random, stream| *stream = bytes(random));
+        });
+    }
+
+    fn streams_by_chance(&mut self, many: usize, change: fn(&mut Random, &mut Vec<u8>)) {
+        for _ in 0..many {
+            let picture = picture(&mut self.random);
+            let mut stream = orders(&mut self.random, picture);
+            change(&mut self.random, &mut stream);
+            let pixels = picture.width * picture.height;
+            let effort = match stream.len() {
+                0..=40 if pixels <= 1024 => Effort::Orders,
+                _ if pixels <= 8192 || self.random.one_in(8) => Effort::Targets,
+                _ => Effort::Basic,
+            };
+            let stream = &stream;
+            self.check(Case { stream, picture }, effort);
+        }
+    }
+
+    fn sizes_and_depths(&mut self) {
+        // The last one fills the first row of the largest width and goes on.
+        let streams: [&[u8]; 4] = [
+            &[],
+            &[0x24, 0xA0],
+            &[0x02, 0x02],
+            &[0xF1, 0x00, 0x20, 0x01, 0x01],
+        ];
+        self.group("sizes and depths", |run| {
+            for (width, height) in SIDES.into_iter().flat_map(|w| SIDES.map(|h| (w, h))) {
+                for bpp in BPPS {
+                    let picture = Picture { width, height, bpp };
+                    for stream in streams {
+                        run.size_and_depth(Case { stream, picture });
+                    }
+                }
+            }
+        });
+    }
+
+    /// A picture that is too large for the mode is only held to its refusal of a short target.
+    fn size_and_depth(&mut self, case: Case) {
+        let most = if self.mode == Mode::Valgrind {
+            1 << 14
+        } else {
+            1 << 18
+        };
+        match case.picture.len() {
+            Some(len) if len > most && self.mode != Mode::Long => {
+                self.hold(case, |checker, case| checker.too_short(case, 100));
+            }
+            Some(len) if len > most => self.check(case, Effort::Basic),
+            _ => self.check(case, Effort::Targets),
+        }
+    }
+
+    /// The package's module that resizes vectors, from vectors of several lengths.
+    fn package(&mut self, many: usize) {
+        self.group("vectors of the package", |run| {
+            for _ in 0..many {
+                let picture = match run.random.below(8) {
+                    0 => Picture {
+                        width: run.random.pick(&SIDES),
+                        height: run.random.pick(&[0, 1, 8193]),
+                        bpp: run.random.pick(&BPPS),
+                    },
+                    _ => picture(&mut run.random),
+                };
+                let stream = &match picture.len() {
+                    Some(_) => orders(&mut run.random, picture),
+                    None => bytes(&mut run.random),
+                };
+                let len = picture.len().unwrap_or(8);
+                let old_len = run.random.pick(&[0, len / 2, len, len + 9]);
+                run.hold(Case { stream, picture }, |checker, case| {
+                    checker.check_package(case, old_len)
+                });
+            }
+        });
+    }
+
+    fn group(&mut self, name: &str, body: impl FnOnce(&mut Self)) {
+        let before = self.streams;
+        body(self);
+        println!("{name}: {} streams", self.streams - before);
+    }
+
+    fn check(&mut self, case: Case, effort: Effort) {
+        if self.mode == Mode::Valgrind {
+            self.hold(case, |_, case| heap::check(case));
+        } else {
+            self.hold(case, |checker, case| checker.check(case, effort));
+        }
+    }
+
+    /// Ends the program with the smallest case found if this one fails.
+    fn hold(&mut self, case: Case, check: impl Fn(&mut Checker, Case) -> Result<(), String>) {
+        self.streams += 1;
+        let Err(what) = check(&mut self.checker, case) else {
+            return;
+        };
+        let mut failure = Failure::new(case, what);
+        failure.shrink(&mut |case| check(&mut self.checker, case));
+        println!("the decoders differ:\n{}{}", failure.case(), failure.what);
+        exit(1);
+    }
+}
+
+fn with_depths(sizes: &Sizes) -> Vec<Picture> {
+    let with_depth = |&(width, height)| DEPTHS.map(|bpp| Picture { width, height, bpp });
+    sizes.iter().flat_map(with_depth).collect()
+}

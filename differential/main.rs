@@ -1,0 +1,36 @@
+//! Runs the library beside the unchanged `rle.rs` and stops at the first difference.
+//!
+//! Arguments: short, long or valgrind, and a seed. The script `run` builds and calls it.
+
+mod answer;
+mod case;
+mod check;
+mod groups;
+mod heap;
+mod shrink;
+mod streams;
+
+use groups::{Mode, Run};
+use std::env;
+use std::process::exit;
+
+fn main() {
+    let arguments: Vec<String> = env::args().skip(1).collect();
+    let mode = match arguments.first().map(String::as_str) {
+        Some("short") => Mode::Short,
+        Some("long") => Mode::Long,
+        Some("valgrind") => Mode::Valgrind,
+        _ => usage(),
+    };
+    let Some(Ok(seed)) = arguments.get(1).map(|word| word.parse()) else {
+        usage();
+    };
+    println!("{} with seed {seed}", arguments[0]);
+    let streams = Run::new(mode, seed).all();
+    println!("total: {streams} streams, no difference");
+}
+
+fn usage() -> ! {
+    eprintln!("usage: differential short|long|valgrind SEED");
+    exit(2);
+}
