@@ -10,9 +10,10 @@ use lib.Dec.{leb, ltb, eqb, lit≤}
 use lib.ListN.{length, getD, drop, length-drop}
 use lib.Seq.{getD-drop}
 use borrow.Author.Tests.{leb-true, eqb-true, eqb-false}
-use Rattle.rle.specs.Pixels.{Pixel, pick, firstPixel}
+use Rattle.picture.specs.Pixels.{Pixel, pick, firstPixel}
 use Rattle.rle.specs.Orders.{Kind, BgRun, FgRun, FgBgImage, ColorRun, ColorImage, SetFgRun, SetFgBgImage, DitheredRun, SpecialFgBg1, SpecialFgBg2, White, Black, NoOrder, kindOf, kindNumber, RunLength, runLength, noLength, shortLength, megaMegaLength, withBytes, lengthOf, lengthIn, kindRow, rows, row, noRow, headed, headOf}
-use Rattle.rle.specs.Decode.{Frame, State, Step, done, refused, Ink, maskInk, ditherInk, fg, bg, paint, paintOrder, tooLarge, completed, withPainted, withLeft, withForeground, room, needBytes, tooShort, bgRun, fgRun, setForeground, setFgRun, colorRun, ditheredRun, colorImage, specialFgBg, oneMask, andThen, masks, fgBgImage, setFgBgImage, orderOf, orderFrom, endFirstRow, step, Run, ended, paused, stopped, atEnd, thenRun, run, decode, start}
+use Rattle.picture.specs.Sizes.{Frame}
+use Rattle.rle.specs.Decode.{State, Step, done, refused, Ink, maskInk, ditherInk, fg, bg, paint, paintOrder, tooLarge, completed, withPainted, withLeft, withForeground, room, needBytes, tooShort, bgRun, fgRun, setForeground, setFgRun, colorRun, ditheredRun, colorImage, specialFgBg, oneMask, andThen, masks, fgBgImage, setFgBgImage, orderOf, orderFrom, endFirstRow, step, Run, ended, paused, stopped, atEnd, thenRun, run, decode, start}
 use Rattle.rle.proofs.Lengths.{by-number}
 use Rattle.rle.proofs.FgBg.{length-paint}
 
@@ -111,7 +112,7 @@ masks-moves f (m ∷ rest) n s e =
     either (λ (x : Step). Masked n s (after x)) (eqb n 0) _ _ (λ t. masked-done n s (eqb-true n 0 t))
     (λ t.
     let some : n ≡ 0 → ⊥ = eqb-false n 0 t in
-    let shortLength : length (s .left) ≡ suc (length rest) = ap length e in
+    let longer : length (s .left) ≡ suc (length rest) = ap length e in
     let tail : Bytes (s .left) → Bytes rest = λ h i. subst (λ (l : List ℕ). Bytes l) e h (suc i) in
     either (λ (x : Step). Masked n s (after (andThen (λ u. masks f (n - min 8 n) u rest) x))) (leb (min 8 n) (room f (withLeft rest s))) _ _
     (λ u.
@@ -119,14 +120,14 @@ masks-moves f (m ∷ rest) n s e =
     let p = length-paint (f .width) (maskInk (fg s) (bg f s) m) (min 8 n) (s .painted) in
     let q = masks-moves f rest (n - min 8 n) (withPainted ps (withLeft rest s)) refl in
     record {
-      most = omega (arith, p, q .most, shortLength);
+      most = omega (arith, p, q .most, longer);
       grow = omega (arith, p, q .grow);
       orders = omega (arith, p, q .orders, some);
       kept = λ h. q .kept (tail h);
     })
     (λ u.
     record {
-      most = omega (arith, shortLength);
+      most = omega (arith, longer);
       grow = le-refl _;
       orders = omega arith;
       kept = tail;

@@ -14,11 +14,11 @@ use Rattle.rle.specs.declared.order.State.{State as CodeState}
 use Rattle.rle.specs.declared.order.Stepped.{Stepped}
 use Rattle.rle.specs.declared.order.Answer.{Answer}
 use Rattle.rle.specs.declared.order.Answer.the-variants.{Done, Refused}
-use Rattle.rle.specs.declared.report.RleError.{RleError}
-use Rattle.rle.specs.declared.report.RleError.the-variants.{NotEnoughBytes}
-use Rattle.rle.specs.Pixels.{Pixel, pick}
-use Rattle.rle.specs.Orders.{Refusal}
-use Rattle.rle.specs.Decode.{Frame, Ink, color, paint, maskInk, fg, bg, withPainted, withLeft, room, tooLarge, State, Step, done, refused, masks, fgBgImage, oneMask, andThen, tooShort, completed}
+use Rattle.picture.specs.declared.outcome.RleError.{RleError}
+use Rattle.picture.specs.declared.outcome.RleError.the-variants.{NotEnoughBytes}
+use Rattle.picture.specs.Pixels.{Pixel, pick}
+use Rattle.picture.specs.Sizes.{Refusal, Frame}
+use Rattle.rle.specs.Decode.{Ink, color, paint, maskInk, fg, bg, withPainted, withLeft, room, tooLarge, State, Step, done, refused, masks, fgBgImage, oneMask, andThen, tooShort, completed}
 use Rattle.rle.specs.Contracts.{pixelsOf, Sound, Did, stateOf, stepOf, atPos, completedOf, refusedOf, outcomeOf}
 use Rattle.rle.proofs.Pixels.{length-pixelsOf}
 

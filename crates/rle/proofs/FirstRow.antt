@@ -8,8 +8,9 @@ use lib.ListN.{length}
 use borrow.Author.Tests.{le-ltb, lt-ltb, ltb-false}
 use Rattle.rle.specs.declared.order.Frame.{Frame as CodeFrame}
 use Rattle.rle.specs.declared.order.State.{State as CodeState}
-use Rattle.rle.specs.Pixels.{pick}
-use Rattle.rle.specs.Decode.{Frame, endFirstRow}
+use Rattle.picture.specs.Pixels.{pick}
+use Rattle.picture.specs.Sizes.{Frame}
+use Rattle.rle.specs.Decode.{endFirstRow}
 use Rattle.rle.specs.Contracts.{Sound, frameOf, stateOf, rowAbove, atPos, firstRowEnded}
 use Rattle.rle.proofs.Pixels.{length-pixelsOf}
 

@@ -10,7 +10,7 @@ use lib.Seq.{drop-drop, getD-drop}
 use borrow.Author.Tests.{le-leb, lt-leb, le-ltb, lt-ltb, eq-eqb, ne-eqb}
 use Rattle.rle.specs.declared.code.RunLength.{RunLength as CodeLength}
 use Rattle.rle.specs.declared.code.RunLength.the-variants.{Of, NotRead}
-use Rattle.rle.specs.declared.report.RleError.the-variants.{NotEnoughBytes, UnexpectedZeroLength}
+use Rattle.picture.specs.declared.outcome.RleError.the-variants.{NotEnoughBytes, UnexpectedZeroLength}
 use Rattle.rle.specs.Orders.{RunLength, runLength, shortLength, megaMegaLength, withBytes, lengthOf, kindRow, rows, row, noRow, lengthIn}
 use Rattle.rle.specs.Contracts.{Reads}
 
@@ -71,19 +71,19 @@ module _ (src : List ℕ) (a : ℕ) (inside : a ≤ length src) where
 pub by-number : (P : ℕ → Type 0) → P 0 → P 1 → P 2 → P 3 → P 4 → P 5 → P 6 → P 7 → P 8 → P 9 → P 10 → P 11
     → ((c : ℕ) → P (suc (suc (suc (suc (suc (suc (suc (suc (suc (suc (suc (suc c)))))))))))))
     → (c : ℕ) → P c
-by-number P p0 p1 p2 p3 p4 p5 p6 p7 p8 p9 p10 p11 withPainted zero = p0
-by-number P p0 p1 p2 p3 p4 p5 p6 p7 p8 p9 p10 p11 withPainted (suc zero) = p1
-by-number P p0 p1 p2 p3 p4 p5 p6 p7 p8 p9 p10 p11 withPainted (suc (suc zero)) = p2
-by-number P p0 p1 p2 p3 p4 p5 p6 p7 p8 p9 p10 p11 withPainted (suc (suc (suc zero))) = p3
-by-number P p0 p1 p2 p3 p4 p5 p6 p7 p8 p9 p10 p11 withPainted (suc (suc (suc (suc zero)))) = p4
-by-number P p0 p1 p2 p3 p4 p5 p6 p7 p8 p9 p10 p11 withPainted (suc (suc (suc (suc (suc zero))))) = p5
-by-number P p0 p1 p2 p3 p4 p5 p6 p7 p8 p9 p10 p11 withPainted (suc (suc (suc (suc (suc (suc zero)))))) = p6
-by-number P p0 p1 p2 p3 p4 p5 p6 p7 p8 p9 p10 p11 withPainted (suc (suc (suc (suc (suc (suc (suc zero))))))) = p7
-by-number P p0 p1 p2 p3 p4 p5 p6 p7 p8 p9 p10 p11 withPainted (suc (suc (suc (suc (suc (suc (suc (suc zero)))))))) = p8
-by-number P p0 p1 p2 p3 p4 p5 p6 p7 p8 p9 p10 p11 withPainted (suc (suc (suc (suc (suc (suc (suc (suc (suc zero))))))))) = p9
-by-number P p0 p1 p2 p3 p4 p5 p6 p7 p8 p9 p10 p11 withPainted (suc (suc (suc (suc (suc (suc (suc (suc (suc (suc zero)))))))))) = p10
-by-number P p0 p1 p2 p3 p4 p5 p6 p7 p8 p9 p10 p11 withPainted (suc (suc (suc (suc (suc (suc (suc (suc (suc (suc (suc zero))))))))))) = p11
-by-number P p0 p1 p2 p3 p4 p5 p6 p7 p8 p9 p10 p11 withPainted (suc (suc (suc (suc (suc (suc (suc (suc (suc (suc (suc (suc c)))))))))))) = withPainted c
+by-number P p0 p1 p2 p3 p4 p5 p6 p7 p8 p9 p10 p11 other zero = p0
+by-number P p0 p1 p2 p3 p4 p5 p6 p7 p8 p9 p10 p11 other (suc zero) = p1
+by-number P p0 p1 p2 p3 p4 p5 p6 p7 p8 p9 p10 p11 other (suc (suc zero)) = p2
+by-number P p0 p1 p2 p3 p4 p5 p6 p7 p8 p9 p10 p11 other (suc (suc (suc zero))) = p3
+by-number P p0 p1 p2 p3 p4 p5 p6 p7 p8 p9 p10 p11 other (suc (suc (suc (suc zero)))) = p4
+by-number P p0 p1 p2 p3 p4 p5 p6 p7 p8 p9 p10 p11 other (suc (suc (suc (suc (suc zero))))) = p5
+by-number P p0 p1 p2 p3 p4 p5 p6 p7 p8 p9 p10 p11 other (suc (suc (suc (suc (suc (suc zero)))))) = p6
+by-number P p0 p1 p2 p3 p4 p5 p6 p7 p8 p9 p10 p11 other (suc (suc (suc (suc (suc (suc (suc zero))))))) = p7
+by-number P p0 p1 p2 p3 p4 p5 p6 p7 p8 p9 p10 p11 other (suc (suc (suc (suc (suc (suc (suc (suc zero)))))))) = p8
+by-number P p0 p1 p2 p3 p4 p5 p6 p7 p8 p9 p10 p11 other (suc (suc (suc (suc (suc (suc (suc (suc (suc zero))))))))) = p9
+by-number P p0 p1 p2 p3 p4 p5 p6 p7 p8 p9 p10 p11 other (suc (suc (suc (suc (suc (suc (suc (suc (suc (suc zero)))))))))) = p10
+by-number P p0 p1 p2 p3 p4 p5 p6 p7 p8 p9 p10 p11 other (suc (suc (suc (suc (suc (suc (suc (suc (suc (suc (suc zero))))))))))) = p11
+by-number P p0 p1 p2 p3 p4 p5 p6 p7 p8 p9 p10 p11 other (suc (suc (suc (suc (suc (suc (suc (suc (suc (suc (suc (suc c)))))))))))) = other c
 
 module _ (h c : ℕ) (rest : List ℕ) where
   pub length-one : 9 < c → runLength 1 rest ≡ lengthOf h c rest

@@ -1,5 +1,4 @@
 pub mod Table
-pub mod Depths
 pub mod Pixels
 pub mod Painting
 pub mod Lengths

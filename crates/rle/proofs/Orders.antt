@@ -13,11 +13,12 @@ use Rattle.rle.specs.declared.order.Frame.{Frame as CodeFrame}
 use Rattle.rle.specs.declared.order.Stepped.{Stepped}
 use Rattle.rle.specs.declared.order.Answer.the-variants.{Done}
 use Rattle.rle.specs.declared.paint.Ink.{Ink as CodeInk}
-use Rattle.rle.specs.declared.report.RleError.the-variants.{BadOrderCode, NotEnoughBytes}
-use Rattle.rle.specs.Pixels.{Pixel, firstPixel, pixelAt}
+use Rattle.picture.specs.declared.outcome.RleError.the-variants.{BadOrderCode, NotEnoughBytes}
+use Rattle.picture.specs.Pixels.{Pixel, firstPixel, pixelAt, OfDepth}
 use Rattle.rle.specs.Orders.{Kind, NoOrder, Row, kindOf, kindRow, rows, noRow, row}
-use Rattle.rle.specs.Decode.{Frame, Ink, solid, fgInk, bgInk, insertInk, maskInk, ditherInk, State, Step, room, tooLarge, tooShort, needBytes, paintOrder, completed, withPainted, withLeft, withForeground, fgRun, setForeground, setFgRun, colorRun, ditheredRun, colorImage, oneMask, fgBgImage, setFgBgImage, orderOf}
-use Rattle.rle.specs.Contracts.{OfDepth, Paintable, Painted, Framed, Sound, Did, frameOf, stateOf, inkOf, reach, rowAbove, fgMode, bgMode, fgOf, bgOf, withFg, atPos, advancedBy, completedOf, refusedOf, tooLargeOf}
+use Rattle.picture.specs.Sizes.{Frame}
+use Rattle.rle.specs.Decode.{Ink, solid, fgInk, bgInk, insertInk, maskInk, ditherInk, State, Step, room, tooLarge, tooShort, needBytes, paintOrder, completed, withPainted, withLeft, withForeground, fgRun, setForeground, setFgRun, colorRun, ditheredRun, colorImage, oneMask, fgBgImage, setFgBgImage, orderOf}
+use Rattle.rle.specs.Contracts.{Paintable, Painted, Framed, Sound, Did, frameOf, stateOf, inkOf, reach, rowAbove, fgMode, bgMode, fgOf, bgOf, withFg, atPos, advancedBy, completedOf, refusedOf, tooLargeOf}
 use Rattle.rle.proofs.Pixels.{length-pixelsOf}
 use Rattle.rle.proofs.Painting.{of-depth, painted-as}
 

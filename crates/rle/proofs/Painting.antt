@@ -14,10 +14,11 @@ use lib.Seq.{drop-drop}
 use Rattle.rle.specs.declared.paint.Mode.{Mode}
 use Rattle.rle.specs.declared.paint.Mode.the-variants.{Solid, Above, AboveXor}
 use Rattle.rle.specs.declared.paint.Ink.{Ink as CodeInk}
-use Rattle.rle.specs.Pixels.{Pixel, pick, firstPixel, pixelAt, xorPixel}
+use Rattle.picture.specs.Pixels.{Pixel, pick, firstPixel, pixelAt, xorPixel, OfDepth}
 use Rattle.rle.specs.Decode.{Ink, solid, color, paint, pixelAbove, insertInk, maskInk, ditherInk}
-use Rattle.rle.specs.Contracts.{OfDepth, pixelsOf, storePixel, Paintable, PaintedOne, Painted, reach, inkOf, solidInk}
-use Rattle.rle.proofs.Pixels.{first-pixel-cong, getD-first-pixel, length-first-pixel, length-pixelsOf, getD-pixelsOf, store-before, store-there, store-after}
+use Rattle.rle.specs.Contracts.{pixelsOf, storePixel, Paintable, PaintedOne, Painted, reach, inkOf, solidInk}
+use Rattle.picture.proofs.Pixels.{first-pixel-cong, getD-first-pixel, length-first-pixel}
+use Rattle.rle.proofs.Pixels.{length-pixelsOf, getD-pixelsOf, store-before, store-there, store-after}
 
 -- ---- colors have their unused bytes zero
 

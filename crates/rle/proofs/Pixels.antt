@@ -1,53 +1,16 @@
 -- Laws of pixels in byte lists, for every number of bytes D. Assumes nothing.
 use mathlib.Core.Path.{_≡_, refl, ap, sym, _∙_}
 use mathlib.Core.List.{List, [], _∷_, _++_, append-assoc, append-nil}
-use mathlib.Core.Bool.{Bool, true, false}
 use Prim.Native.Nat.{ℕ, zero, suc, _+_, _*_, _-_, _≤_, _<_}
 use native.Mathlib.Nat.{add-zero, suc-mul, zero-mul, le-refl}
 use native.Mathlib.Numerals.{add-one, add-two}
 use native.Mathlib.Decide.{decLt}
 use native.Mathlib.Omega.{arith}
-use lib.Dec.{ltb}
-use lib.ListN.{length, getD, take, drop, set, length-append, length-take, length-drop, List·getD-append}
-use lib.Seq.{getD-drop, getD-take, take-at, drop-at, sets, sets-eq, take-add, length-take-le, ext-getD, getD-at, paste, drop-paste}
-use borrow.Author.Tests.{ltb-true, lt-ltb}
-use Rattle.rle.specs.Pixels.{Pixel, pick, firstPixel, pixelAt, bytesOf}
+use lib.ListN.{length, getD, take, drop, set, length-append, length-drop, List·getD-append}
+use lib.Seq.{getD-drop, getD-take, take-at, drop-at, sets-eq, take-add, length-take-le, getD-at, drop-paste}
+use Rattle.picture.specs.Pixels.{Pixel, firstPixel, pixelAt, bytesOf}
+use Rattle.picture.proofs.Pixels.{first-pixel-cong, take-first-pixel}
 use Rattle.rle.specs.Contracts.{pixelsOf, storePixel}
-
--- ---- a pixel sees only its own bytes
-
-pick-cong : (t : Bool) (x y : ℕ) → (t ≡ true → x ≡ y) → pick t x 0 ≡ pick t y 0
-pick-cong true x y h = h refl
-pick-cong false x y h = refl
-
-pub first-pixel-cong : (D : ℕ) (xs ys : List ℕ) → 1 ≤ D → ((i : ℕ) → i < D → getD xs i 0 ≡ getD ys i 0) → firstPixel D xs ≡ firstPixel D ys
-unfolding firstPixel
-first-pixel-cong D xs ys h e = λ j.
-    e 0 h j
-    ∷ pick-cong (ltb 1 D) (getD xs 1 0) (getD ys 1 0) (λ t. e 1 (ltb-true 1 D t)) j
-    ∷ pick-cong (ltb 2 D) (getD xs 2 0) (getD ys 2 0) (λ t. e 2 (ltb-true 2 D t)) j
-    ∷ []
-
-pub getD-first-pixel : (D : ℕ) (xs : List ℕ) (i : ℕ) → i < D → D ≤ 3 → getD (firstPixel D xs) i 0 ≡ getD xs i 0
-unfolding firstPixel
-getD-first-pixel D xs zero h k = refl
-getD-first-pixel D xs (suc zero) h k = simp (lt-ltb 1 D h)
-getD-first-pixel D xs (suc (suc zero)) h k = simp (lt-ltb 2 D h)
-getD-first-pixel D xs (suc (suc (suc i))) h k = absurd (omega arith)
-
--- the bytes of a pixel as the code reads them
-module _ (s : List ℕ) (at : ℕ) where
-  pub first-pixel-1 : (D : ℕ) → D ≡ 1 → (getD s at 0 ∷ 0 ∷ 0 ∷ []) ≡ firstPixel D (drop at s)
-  unfolding firstPixel
-  first-pixel-1 D e = rw e (simp (getD-drop, add-zero))
-
-  pub first-pixel-2 : (D : ℕ) → D ≡ 2 → (getD s at 0 ∷ getD s (at + 1) 0 ∷ 0 ∷ []) ≡ firstPixel D (drop at s)
-  unfolding firstPixel
-  first-pixel-2 D e = rw e (simp (getD-drop, add-zero))
-
-  pub first-pixel-3 : (D : ℕ) → D ≡ 3 → (getD s at 0 ∷ getD s (at + 1) 0 ∷ getD s (at + 2) 0 ∷ []) ≡ firstPixel D (drop at s)
-  unfolding firstPixel
-  first-pixel-3 D e = rw e (simp (getD-drop, add-zero))
 
 -- ---- the first n pixels
 
@@ -120,7 +83,7 @@ pixels-cong D n xs ys h e =
     ∙ pixels-take D n (n * D) ys h (le-refl (n * D))
 
 -- what a store of the pixel q as pixel k does
-module _ (D k : ℕ) (xs q : List ℕ) (low : 1 ≤ D) (fits : k * D + D ≤ length xs) (megaMegaLength : D ≤ length q) where
+module _ (D k : ℕ) (xs q : List ℕ) (low : 1 ≤ D) (fits : k * D + D ≤ length xs) (enough : D ≤ length q) where
   store-take : take (k * D) (storePixel D xs (k * D) q) ≡ take (k * D) xs
   unfolding storePixel
   store-take =
@@ -136,30 +99,18 @@ module _ (D k : ℕ) (xs q : List ℕ) (low : 1 ≤ D) (fits : k * D + D ≤ len
       rw (append-assoc, drop-at (take (k * D) xs) (take D q ++ drop (k * D + D) xs) (k * D) (length-take-le (k * D) xs (omega arith)))
       (first-pixel-cong D (take D q ++ drop (k * D + D) xs) q low
       (λ i b.
-      List·getD-append (take D q) (drop (k * D + D) xs) 0 i (rw (length-take-le D q megaMegaLength) b)
+      List·getD-append (take D q) (drop (k * D + D) xs) 0 i (rw (length-take-le D q enough) b)
       ∙ getD-take D q i 0 b))
 
   pub store-after : drop (k * D + D) (storePixel D xs (k * D) q) ≡ drop (k * D + D) xs
   unfolding storePixel
-  store-after = drop-paste xs (k * D) q D (omega arith) megaMegaLength
+  store-after = drop-paste xs (k * D) q D (omega arith) enough
 
 -- the law of bytes
 pub bytesOf-append : (D : ℕ) (ps qs : List Pixel) → bytesOf D (ps ++ qs) ≡ bytesOf D ps ++ bytesOf D qs
 unfolding bytesOf
 bytesOf-append D [] qs = refl
 bytesOf-append D (p ∷ ps) qs = ap (λ (l : List ℕ). take D p ++ l) (bytesOf-append D ps qs) ∙ sym (append-assoc (take D p) (bytesOf D ps) (bytesOf D qs))
-
-pub length-first-pixel : (D : ℕ) (xs : List ℕ) → length (firstPixel D xs) ≡ 3
-unfolding firstPixel
-length-first-pixel D xs = refl
-
-take-first-pixel : (D : ℕ) (xs : List ℕ) → D ≤ 3 → D ≤ length xs → take D (firstPixel D xs) ≡ take D xs
-take-first-pixel D xs h b =
-    let e : length (take D (firstPixel D xs)) ≡ D = length-take-le D (firstPixel D xs) (rw length-first-pixel h) in
-    ext-getD 0 (take D (firstPixel D xs)) (take D xs) (e ∙ sym (length-take-le D xs b))
-    (λ i c.
-    let c′ : i < D = rw e at c in
-    getD-take D (firstPixel D xs) i 0 c′ ∙ getD-first-pixel D xs i c′ h ∙ sym (getD-take D xs i 0 c′))
 
 pub bytes-pixels : (D n : ℕ) (xs : List ℕ) → D ≤ 3 → n * D ≤ length xs → bytesOf D (pixelsOf D n xs) ≡ take (n * D) xs
 unfolding pixelsOf bytesOf pixelAt

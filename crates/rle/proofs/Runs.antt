@@ -3,7 +3,8 @@ use mathlib.Core.Path.{_≡_, refl, ap, sym, _∙_}
 use mathlib.Core.List.{List, [], _∷_}
 use Prim.Native.Nat.{ℕ, zero, suc, _+_}
 use native.Mathlib.Nat.{zero-add, suc-add}
-use Rattle.rle.specs.Decode.{Frame, State, Step, done, refused, step, Run, ended, paused, stopped, atEnd, thenRun, run}
+use Rattle.picture.specs.Sizes.{Frame}
+use Rattle.rle.specs.Decode.{State, Step, done, refused, step, Run, ended, paused, stopped, atEnd, thenRun, run}
 
 -- a paused run goes on, an ended or refused one does not
 unfoldable pub goOn : (State → Run) → Run → Run

@@ -13,9 +13,10 @@ use Rattle.rle.specs.declared.order.Answer.{Answer}
 use Rattle.rle.specs.declared.order.Answer.the-variants.{Done, Refused}
 use Rattle.rle.specs.declared.code.RunLength.{RunLength as CodeLength}
 use Rattle.rle.specs.declared.code.RunLength.the-variants.{Of, NotRead}
-use Rattle.rle.specs.declared.report.RleError.{RleError}
+use Rattle.picture.specs.declared.outcome.RleError.{RleError}
 use Rattle.rle.specs.Orders.{RunLength, lengthOf, kindNumber, kindOf, headed, headOf}
-use Rattle.rle.specs.Decode.{Frame, State, Step, orderOf, orderFrom, withLeft, step, Run, ended, atEnd, thenRun, run, decode, start}
+use Rattle.picture.specs.Sizes.{Frame}
+use Rattle.rle.specs.Decode.{State, Step, orderOf, orderFrom, withLeft, step, Run, ended, atEnd, thenRun, run, decode, start}
 use Rattle.rle.specs.Contracts.{pixelsOf, Sound, Did, Reads, Ran, Framed, frameOf, stateOf, stepOf, outcomeOf, lengthIs, lengthFits, firstRowEnded, atPos, refusedOf, startOf, runOf}
 use Rattle.rle.proofs.FirstRow.{mark-is, sound-marked}
 use Rattle.rle.proofs.FgBg.{rest-later}

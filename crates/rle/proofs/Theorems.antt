@@ -7,13 +7,14 @@ use lib.Seq.{take-at, drop-at}
 use lib.Dec.{eqb}
 use borrow.Author.Tests.{le-ltb}
 use Rattle.rle.specs.declared.report.Report.{Report}
-use Rattle.rle.specs.declared.report.Outcome.{Outcome}
-use Rattle.rle.specs.declared.report.Outcome.the-variants.{Ok, Err}
-use Rattle.rle.specs.declared.report.RleError.the-variants.{InvalidBpp, EmptyImage, DimensionsTooLarge, BufferTooShort, BadOrderCode, NotEnoughBytes, InvalidImageSize, UnexpectedZeroLength}
-use Rattle.rle.specs.Pixels.{bytesOf}
-use Rattle.rle.specs.Orders.{Refusal}
-use Rattle.rle.specs.Decode.{Checked, away, fit, checked, withSpace, Result, ofChecked, result, resultIn}
-use Rattle.rle.specs.Report.{Decompresses, refusalIn}
+use Rattle.picture.specs.declared.outcome.Outcome.{Outcome}
+use Rattle.picture.specs.declared.outcome.Outcome.the-variants.{Ok, Err}
+use Rattle.picture.specs.declared.outcome.RleError.the-variants.{InvalidBpp, EmptyImage, DimensionsTooLarge, BufferTooShort, BadOrderCode, NotEnoughBytes, InvalidImageSize, UnexpectedZeroLength}
+use Rattle.picture.specs.Pixels.{bytesOf}
+use Rattle.picture.specs.Sizes.{Refusal, Checked, away, fit, checked, withSpace}
+use Rattle.rle.specs.Decode.{Result, ofChecked, result, resultIn}
+use Rattle.picture.specs.Outcomes.{refusalIn}
+use Rattle.rle.specs.Report.{Agrees, Decompresses}
 use Rattle.rle.specs.Guarantees.{spaceFor, HasSpace, Defined, NoOldByte, isOk}
 
 space-is : (given : ℕ) (c : Checked) → spaceFor given c → withSpace given c ≡ c
@@ -22,11 +23,11 @@ space-is given (away r) h = refl
 space-is given (fit f k) h = rw (le-ltb given (f .total * f .bytes) h)
 
 pub defined : (src : List ℕ) (bpp w h : ℕ) (before after : List ℕ) (r : Report)
-    → Decompresses src before after r (resultIn (length before) src bpp w h) → HasSpace before bpp w h → Defined src bpp w h before after r
+    → Decompresses src bpp w h before after r → HasSpace before bpp w h → Defined src bpp w h before after r
 unfolding resultIn result
 defined src bpp w h before after r d space =
-    let e : Decompresses src before after r (result src bpp w h) =
-    subst (λ (x : Result). Decompresses src before after r x) (ap (λ (c : Checked). ofChecked src c) (space-is (length before) (checked bpp w h) space)) d in
+    let e : Agrees src before after (w * h) r (result src bpp w h) =
+    subst (λ (x : Result). Agrees src before after (w * h) r x) (ap (λ (c : Checked). ofChecked src c) (space-is (length before) (checked bpp w h) space)) d in
     record {
       refusal = e .refusal;
       format = e .format;
@@ -37,13 +38,14 @@ defined src bpp w h before after r d space =
           rw (e .pixels)
           (ap (λ (l : List ℕ). drop (length (result src bpp w h .painted) * result src bpp w h .bytes) l) (e .target)
           ∙ drop-at (bytesOf (result src bpp w h .bytes) (result src bpp w h .painted)) _ _ (e .painted));
+      within = e .within;
       counted = e .counted;
       bounded = e .bounded;
     }
 
 -- no old byte shows
 pub no-old-byte : (src : List ℕ) (bpp w h : ℕ) (before₁ after₁ : List ℕ) (r₁ : Report) (before₂ after₂ : List ℕ) (r₂ : Report)
-    → Decompresses src before₁ after₁ r₁ (resultIn (length before₁) src bpp w h) → Decompresses src before₂ after₂ r₂ (resultIn (length before₂) src bpp w h)
+    → Decompresses src bpp w h before₁ after₁ r₁ → Decompresses src bpp w h before₂ after₂ r₂
     → HasSpace before₁ bpp w h → HasSpace before₂ bpp w h → NoOldByte src bpp w h before₁ after₁ r₁ before₂ after₂ r₂
 no-old-byte src bpp w h before₁ after₁ r₁ before₂ after₂ r₂ d₁ d₂ s₁ s₂ =
     let a = defined src bpp w h before₁ after₁ r₁ d₁ s₁ in
@@ -59,8 +61,8 @@ no-old-byte src bpp w h before₁ after₁ r₁ before₂ after₂ r₂ d₁ d�
     }
 
 -- a call answers Ok exactly where the definition refuses nothing
-pub accepts : (src before after : List ℕ) (r : Report) (e : Result) → Decompresses src before after r e → isOk (r .outcome) ≡ eqb (e .refusal .number) 0
-accepts src before after r e d = go (r .outcome) ∙ ap (λ (x : Refusal). eqb (x .number) 0) (d .refusal)
+pub accepts : (src before after : List ℕ) (total : ℕ) (r : Report) (e : Result) → Agrees src before after total r e → isOk (r .outcome) ≡ eqb (e .refusal .number) 0
+accepts src before after total r e d = go (r .outcome) ∙ ap (λ (x : Refusal). eqb (x .number) 0) (d .refusal)
   where
     go : (o : Outcome) → isOk o ≡ eqb (refusalIn o .number) 0
     go (Ok k) = refl

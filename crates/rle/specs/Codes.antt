@@ -6,7 +6,7 @@ use Prim.Native.Nat.{ℕ, zero, suc, _-_, _/_}
 use lib.Dec.{ltb, eqb}
 use lib.Bits.{bitAnd}
 use lib.ListN.{getD}
-use Rattle.rle.specs.Pixels.{pick}
+use Rattle.picture.specs.Pixels.{pick}
 use Rattle.rle.specs.Orders.{kindNumber, numberIn, hasHeader, isMegaMega, rows, row}
 
 -- regular orders: three bits; mega and special orders: the whole byte; lite orders: four bits

@@ -6,7 +6,7 @@ use mathlib.Core.Bool.{Bool, true, false}
 use Prim.Native.Nat.{ℕ, zero, suc, _+_, _-_, _*_, _≤_}
 use lib.Dec.{ltb}
 use lib.ListN.{length, take, drop}
-use Rattle.rle.specs.declared.depth.Depth.{Depth as CodeDepth}
+use Rattle.picture.specs.declared.depth.Depth.{Depth as CodeDepth}
 use Rattle.rle.specs.declared.code.RunLength.{RunLength as CodeLength}
 use Rattle.rle.specs.declared.code.RunLength.the-variants.{Of, NotRead}
 use Rattle.rle.specs.declared.paint.Mode.{Mode}
@@ -17,20 +17,17 @@ use Rattle.rle.specs.declared.order.State.{State as CodeState}
 use Rattle.rle.specs.declared.order.Answer.{Answer}
 use Rattle.rle.specs.declared.order.Answer.the-variants.{Done, Refused}
 use Rattle.rle.specs.declared.order.Stepped.{Stepped}
-use Rattle.rle.specs.declared.report.RleError.{RleError}
-use Rattle.rle.specs.declared.report.RleError.the-variants.{InvalidImageSize}
-use Rattle.rle.specs.declared.report.Outcome.the-variants.{Err}
+use Rattle.picture.specs.declared.outcome.RleError.{RleError}
+use Rattle.picture.specs.declared.outcome.RleError.the-variants.{InvalidImageSize}
+use Rattle.picture.specs.declared.outcome.Outcome.the-variants.{Err}
 use Rattle.rle.specs.declared.report.Report.{Report}
-use Rattle.rle.specs.Pixels.{Pixel, pick, firstPixel, pixelAt}
-use Rattle.rle.specs.Orders.{Refusal, refusal, RunLength, runLength, noLength}
-use Rattle.rle.specs.Decode.{Frame, Ink, solid, above, aboveXor, color, paint, State, Step, done, refused, Run, ended, stopped, decode, Depth}
-use Rattle.rle.specs.Report.{refusalOf, refusalIn, formatIn}
+use Rattle.picture.specs.Pixels.{Pixel, OfDepth, pick, firstPixel, pixelAt}
+use Rattle.picture.specs.Sizes.{Refusal, refusal, Frame, Depth}
+use Rattle.rle.specs.Orders.{RunLength, runLength, noLength}
+use Rattle.rle.specs.Decode.{Ink, solid, above, aboveXor, color, paint, State, Step, done, refused, Run, ended, stopped, decode}
+use Rattle.picture.specs.Outcomes.{refusalOf, refusalIn, formatIn}
 
 -- ---- pixels in bytes
-
--- p is a pixel of D bytes: its unused bytes are zero
-abbrev pub OfDepth : ℕ → Pixel → Type 0
-OfDepth D p = firstPixel D p ≡ p
 
 -- the first n pixels of the bytes xs
 unfoldable pub pixelsOf : ℕ → ℕ → List ℕ → List Pixel
@@ -40,9 +37,6 @@ pixelsOf D (suc n) xs = pixelsOf D n xs ++ (pixelAt D xs n ∷ [])
 -- the bytes xs with the D bytes of the pixel p stored from place `at` on
 unfoldable pub storePixel : ℕ → List ℕ → ℕ → Pixel → List ℕ
 storePixel D xs at p = take at xs ++ take D p ++ drop (at + D) xs
-
-abbrev pub depthIn : CodeDepth → Depth
-depthIn d = record { bytes = d .bytes; white = d .white; black = d .black; format = d .format }
 
 -- ---- run lengths
 

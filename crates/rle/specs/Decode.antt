@@ -5,16 +5,9 @@ use mathlib.Core.Bool.{Bool, true, false}
 use Prim.Native.Nat.{ℕ, zero, suc, _+_, _-_, _*_, _/_, _%_, _^_, min}
 use lib.Dec.{ltb, leb, eqb}
 use lib.ListN.{length, getD, drop}
-use Rattle.rle.specs.Orders.{Refusal, refusal, Kind, BgRun, FgRun, FgBgImage, ColorRun, ColorImage, SetFgRun, SetFgBgImage, DitheredRun, SpecialFgBg1, SpecialFgBg2, White, Black, NoOrder, Head, head, noHead, headOf}
-use Rattle.rle.specs.Pixels.{Pixel, pick, firstPixel, pixelAt, xorPixel}
-
--- what a picture's orders go by: bytes of a pixel, white, black, the picture's width and its pixels
-pub record Frame : Type 0 where
-  pub bytes : ℕ
-  pub white : Pixel
-  pub black : Pixel
-  pub width : ℕ
-  pub total : ℕ
+use Rattle.picture.specs.Sizes.{Refusal, refusal, Frame, Checked, away, fit, checked, withSpace}
+use Rattle.rle.specs.Orders.{Kind, BgRun, FgRun, FgBgImage, ColorRun, ColorImage, SetFgRun, SetFgBgImage, DitheredRun, SpecialFgBg1, SpecialFgBg2, White, Black, NoOrder, Head, head, noHead, headOf}
+use Rattle.picture.specs.Pixels.{Pixel, pick, firstPixel, pixelAt, xorPixel}
 
 -- ---- painting
 
@@ -235,54 +228,6 @@ unfoldable pub decode : Frame → List ℕ → Run
 decode f stream = run f (length stream) (start f stream)
 
 -- ---- the picture and its report
-
--- a row of the depth table: bytes of a pixel, white, black, and the format's number, which is the bits per pixel
-pub record Depth : Type 0 where
-  pub bytes : ℕ
-  pub white : Pixel
-  pub black : Pixel
-  pub format : ℕ
-
-unfoldable pub depths : List Depth
-depths =
-    record { bytes = 1; white = 0xFF ∷ 0 ∷ 0 ∷ []; black = 0 ∷ 0 ∷ 0 ∷ []; format = 8 }
-    ∷ record { bytes = 2; white = 0xFF ∷ 0x7F ∷ 0 ∷ []; black = 0 ∷ 0 ∷ 0 ∷ []; format = 15 }
-    ∷ record { bytes = 2; white = 0xFF ∷ 0xFF ∷ 0 ∷ []; black = 0 ∷ 0 ∷ 0 ∷ []; format = 16 }
-    ∷ record { bytes = 3; white = 0xFF ∷ 0xFF ∷ 0xFF ∷ []; black = 0 ∷ 0 ∷ 0 ∷ []; format = 24 }
-    ∷ []
-
-unfoldable pub noDepth : Depth
-noDepth = record { bytes = 0; white = 0 ∷ 0 ∷ 0 ∷ []; black = 0 ∷ 0 ∷ 0 ∷ []; format = 0 }
-
--- the place of a depth in the table; 4: it has none
-unfoldable pub depthIndex : ℕ → ℕ
-depthIndex bpp = pick (eqb bpp 8) 0 (pick (eqb bpp 15) 1 (pick (eqb bpp 16) 2 (pick (eqb bpp 24) 3 4)))
-
-unfoldable pub depthOf : ℕ → Depth
-depthOf bpp = getD depths (depthIndex bpp) noDepth
-
--- a refusal before the stream, or the frame with the format's number
-pub data Checked : Type 0 where
-  away : Refusal → Checked
-  fit : Frame → ℕ → Checked
-
-unfoldable pub fitOf : Depth → ℕ → ℕ → Checked
-fitOf d w h = fit (record { bytes = d .bytes; white = d .white; black = d .black; width = w; total = w * h }) (d .format)
-
--- refusals 1 to 3
-unfoldable pub checked : ℕ → ℕ → ℕ → Checked
-checked bpp w h =
-    pick (leb 4 (depthIndex bpp)) (away (refusal 1 bpp 0))
-    (pick (eqb w 0) (away (refusal 2 0 0))
-    (pick (eqb h 0) (away (refusal 2 0 0))
-    (pick (ltb 8192 w) (away (refusal 3 w h))
-    (pick (ltb 8192 h) (away (refusal 3 w h)) (fitOf (depthOf bpp) w h)))))
-
--- refusal 4, for a target of `given` bytes
-unfoldable pub withSpace : ℕ → Checked → Checked
-withSpace given (away r) = away r
-withSpace given (fit f k) =
-    pick (ltb given (f .total * f .bytes)) (away (refusal 4 (f .total * f .bytes) given)) (fit f k)
 
 -- the refusal (number 0: none), the format's number (0 where refused), the bytes of a pixel, the pixels painted, the orders
 -- completed

@@ -6,11 +6,12 @@ use mathlib.Core.Bool.{Bool, true, false}
 use Prim.Native.Nat.{ℕ, _*_, _≤_}
 use lib.ListN.{length, take, drop}
 use Rattle.rle.specs.declared.report.Report.{Report}
-use Rattle.rle.specs.declared.report.Outcome.{Outcome}
-use Rattle.rle.specs.declared.report.Outcome.the-variants.{Ok, Err}
-use Rattle.rle.specs.Pixels.{bytesOf}
-use Rattle.rle.specs.Decode.{Checked, away, fit, checked, result}
-use Rattle.rle.specs.Report.{refusalIn, formatIn}
+use Rattle.picture.specs.declared.outcome.Outcome.{Outcome}
+use Rattle.picture.specs.declared.outcome.Outcome.the-variants.{Ok, Err}
+use Rattle.picture.specs.Pixels.{bytesOf}
+use Rattle.picture.specs.Sizes.{Checked, away, fit, checked}
+use Rattle.rle.specs.Decode.{result}
+use Rattle.picture.specs.Outcomes.{refusalIn, formatIn}
 
 -- a target of `given` bytes has space for the picture; where refusal 1, 2 or 3 comes, every target has
 abbrev pub spaceFor : ℕ → Checked → Type 0
@@ -28,6 +29,7 @@ pub record Defined (src : List ℕ) (bpp w h : ℕ) (before after : List ℕ) (r
   pub orders : r .orders ≡ result src bpp w h .orders
   pub painted : take (r .pixels * result src bpp w h .bytes) after ≡ bytesOf (result src bpp w h .bytes) (result src bpp w h .painted)
   pub kept : drop (r .pixels * result src bpp w h .bytes) after ≡ drop (r .pixels * result src bpp w h .bytes) before
+  pub within : r .pixels ≤ w * h
   pub counted : r .orders ≤ r .pixels
   pub bounded : r .pixels ≤ 26214 * length src
 

@@ -1,4 +1,3 @@
-pub mod Pixels
 pub mod Orders
 pub mod Decode
 pub mod Report

@@ -5,19 +5,8 @@ use mathlib.Core.Bool.{Bool, true, false}
 use Prim.Native.Nat.{ℕ, suc, _+_, _*_, _%_}
 use lib.Dec.{ltb, leb, eqb}
 use lib.ListN.{length, getD, drop}
-use Rattle.rle.specs.Pixels.{pick}
-
--- a refusal's number and its two values
---   1 bpp not in the depth table (bpp), 2 width or height 0, 3 width or height above 8,192 (width, height),
---   4 target too short (bytes needed, given), 5 the header is no order, 6 stream too short (bytes expected, left),
---   7 order longer than the picture (picture bytes left, bytes required), 8 a two-byte length of 0
-pub record Refusal : Type 0 where
-  pub number : ℕ
-  pub first : ℕ
-  pub second : ℕ
-
-abbrev pub refusal : ℕ → ℕ → ℕ → Refusal
-refusal n a b = record { number = n; first = a; second = b }
+use Rattle.picture.specs.Pixels.{pick}
+use Rattle.picture.specs.Sizes.{Refusal, refusal}
 
 pub data Kind : Type 0 where
   BgRun : Kind

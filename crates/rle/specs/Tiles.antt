@@ -3,10 +3,10 @@
 use mathlib.Core.Path.{_≡_, refl}
 use mathlib.Core.List.{List, [], _∷_, map}
 use Prim.Native.Nat.{ℕ}
-use lib.ListN.{length}
-use Rattle.rle.specs.Pixels
+use Rattle.picture.specs.Pixels
 use Rattle.rle.specs.Orders
-use Rattle.rle.specs.Orders.{Refusal, refusal}
+use Rattle.picture.specs.Sizes
+use Rattle.picture.specs.Sizes.{Refusal, refusal}
 use Rattle.rle.specs.Decode
 use Rattle.rle.specs.Decode.{Result, result}
 
@@ -124,12 +124,12 @@ unfolding tiles decoded painting
     Decode.thenRun
     Decode.run
     Decode.decode
-    Decode.depths
-    Decode.noDepth
-    Decode.depthIndex
-    Decode.depthOf
-    Decode.fitOf
-    Decode.checked
+    Sizes.depths
+    Sizes.noDepth
+    Sizes.depthIndex
+    Sizes.depthOf
+    Sizes.fitOf
+    Sizes.checked
     Decode.resultOf
     Decode.ofRun
     Decode.ofChecked

@@ -4,7 +4,7 @@ ghost use Prim.Native.Nat.{_+_, _*_, _%_, _≤_, _<_};
 ghost use lib.ListN.{length, drop};
 ghost use Rattle.rle.specs.Orders.{kindNumber, lengthOf, shortLength, megaMegaLength};
 ghost use Rattle.rle.specs.Contracts.{Reads};
-use crate::report::RleError;
+use picture::RleError;
 use buf::Read;
 use buf::u8_from;
 use buf::u16_from;

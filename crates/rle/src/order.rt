@@ -4,14 +4,14 @@ ghost use mathlib.Core.Path.{_≡_};
 ghost use mathlib.Core.Bool.{true, false};
 ghost use Prim.Native.Nat.{_+_, _-_, _*_, _≤_, _<_, min};
 ghost use lib.ListN.{length, drop};
-ghost use Rattle.rle.specs.Pixels.{pixelAt};
+ghost use Rattle.picture.specs.Pixels.{pixelAt, OfDepth};
 ghost use Rattle.rle.specs.Orders.{kindOf};
 ghost use Rattle.rle.specs.Decode as decode;
-ghost use Rattle.rle.specs.Contracts.{frameOf, fgOf, bgOf, inkOf, reach, OfDepth, Framed, Sound, Did, completedOf, refusedOf, tooLargeOf, atPos, withFg, advancedBy, firstRowEnded};
+ghost use Rattle.rle.specs.Contracts.{frameOf, fgOf, bgOf, inkOf, reach, Framed, Sound, Did, completedOf, refusedOf, tooLargeOf, atPos, withFg, advancedBy, firstRowEnded};
 use crate::code::RunLength;
 use crate::code::extract_run_length;
 use crate::code::kind;
-use crate::depth::Depth;
+use picture::Depth;
 use crate::paint::Ink;
 use crate::paint::Mode;
 use crate::paint::paint_bg_run;
@@ -21,7 +21,7 @@ use crate::paint::paint_mask;
 use crate::paint::paint_run;
 use crate::paint::solid;
 use crate::pixel::read_pixel;
-use crate::report::RleError;
+use picture::RleError;
 
 // What a picture's orders go by: its depth, its width, and its pixels.
 pub(crate) struct Frame {

@@ -2,7 +2,7 @@
 ghost use mathlib.Core.Path.{_≡_};
 ghost use Prim.Native.Nat.{_+_, _≤_};
 ghost use lib.ListN.{length, drop};
-ghost use Rattle.rle.specs.Pixels.{firstPixel, xorPixel};
+ghost use Rattle.picture.specs.Pixels.{firstPixel, xorPixel};
 ghost use Rattle.rle.specs.Contracts.{storePixel};
 
 // The pixel of d bytes whose first one is s[at].

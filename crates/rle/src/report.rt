@@ -1,113 +1,63 @@
-// What decoding answers.
+// The report of a call.
 ghost use mathlib.Core.Path.{_≡_};
-ghost use Rattle.rle.specs.Report.{formatOf, refusalOf, Numbered};
+ghost use Prim.Native.Nat.{_<_};
+ghost use Rattle.picture.specs.Sizes.{depthIndex};
+ghost use Rattle.picture.specs.Outcomes.{formatOf};
+ghost use Rattle.rle.specs.Contracts.{Reports, notDecoded};
+use crate::order::Answer;
+use crate::order::Stepped;
+use picture::Outcome;
+use picture::RleError;
+use picture::RlePixelFormat;
 
-pub enum RlePixelFormat {
-    Rgb24,
-    Rgb16,
-    Rgb15,
-    Rgb8,
-}
-
-pub enum RleError {
-    InvalidBpp {
-        bpp: usize,
-    },
-    EmptyImage,
-    DimensionsTooLarge {
-        width: usize,
-        height: usize,
-    },
-    BufferTooShort {
-        needed: usize,
-        given: usize,
-    },
-    BadOrderCode,
-    NotEnoughBytes {
-        expected: usize,
-        actual: usize,
-    },
-    InvalidImageSize {
-        maximum_additional: usize,
-        required_additional: usize,
-    },
-    UnexpectedZeroLength,
-}
-
-pub enum Outcome {
-    Ok(RlePixelFormat),
-    Err(RleError),
-}
-
+// The format or the refusal, the pixels painted, and the orders completed.
 pub struct Report {
     pub outcome: Outcome,
     pub pixels: usize,
     pub orders: usize,
 }
 
-pub enum PictureSize {
-    Bytes(usize),
-    Refused(RleError),
-}
-
-// An outcome as numbers: the format's bits per pixel (0: refused), the refusal's number (0: none) and its two values.
-pub struct Numbers {
-    pub format: usize,
-    pub refusal: usize,
-    pub first: usize,
-    pub second: usize,
-}
-
-pub(crate) fn refusal_numbers(refusal: usize, first: usize, second: usize) -> Numbers
-    ensures { λ r. ⌜ (r .format ≡ 0) × (r .refusal ≡ refusal) × (r .first ≡ first) × (r .second ≡ second) ⌝ }
+// The format of a depth table's row.
+pub(crate) fn pixel_format(format: u8) -> RlePixelFormat
+    requires { ⌜ depthIndex format < 4 ⌝ }
+    ensures { λ r. ⌜ formatOf r ≡ format ⌝ }
 {
-    Numbers {
-        format: 0,
-        refusal,
-        first,
-        second,
+    match format {
+        8 => RlePixelFormat::Rgb8,
+        15 => RlePixelFormat::Rgb15,
+        16 => RlePixelFormat::Rgb16,
+        _ => RlePixelFormat::Rgb24,
     }
 }
 
-pub(crate) fn format_number(f: RlePixelFormat) -> usize
-    ensures { λ r. ⌜ r ≡ formatOf f ⌝ }
+// The report of a stream that was decoded to its end or its refusal.
+pub(crate) fn report_of(r: Stepped, format: u8) -> Report
+    requires { ⌜ depthIndex format < 4 ⌝ }
+    ensures { λ t. ⌜ Reports r format t ⌝ }
 {
-    match f {
-        RlePixelFormat::Rgb24 => 24,
-        RlePixelFormat::Rgb16 => 16,
-        RlePixelFormat::Rgb15 => 15,
-        RlePixelFormat::Rgb8 => 8,
-    }
-}
-
-pub(crate) fn error_numbers(e: RleError) -> Numbers
-    ensures { λ r. ⌜ (r .format ≡ 0) × (r .refusal ≡ refusalOf e .number) × (r .first ≡ refusalOf e .first) × (r .second ≡ refusalOf e .second) ⌝ }
-{
-    match e {
-        RleError::InvalidBpp { bpp } => refusal_numbers(1, bpp, 0),
-        RleError::EmptyImage => refusal_numbers(2, 0, 0),
-        RleError::DimensionsTooLarge { width, height } => refusal_numbers(3, width, height),
-        RleError::BufferTooShort { needed, given } => refusal_numbers(4, needed, given),
-        RleError::BadOrderCode => refusal_numbers(5, 0, 0),
-        RleError::NotEnoughBytes { expected, actual } => refusal_numbers(6, expected, actual),
-        RleError::InvalidImageSize {
-            maximum_additional,
-            required_additional,
-        } => refusal_numbers(7, maximum_additional, required_additional),
-        RleError::UnexpectedZeroLength => refusal_numbers(8, 0, 0),
-    }
-}
-
-pub fn numbers_of(o: Outcome) -> Numbers
-    ensures { λ r. ⌜ Numbered o r ⌝ }
-{
-    match o {
-        Outcome::Ok(f) => Numbers {
-            format: format_number(f),
-            refusal: 0,
-            first: 0,
-            second: 0,
+    let a = r.answer;
+    let s = r.state;
+    match a {
+        Answer::Done => Report {
+            outcome: Outcome::Ok(pixel_format(format)),
+            pixels: s.pixels,
+            orders: s.orders,
         },
-        Outcome::Err(e) => error_numbers(e),
+        Answer::Refused(e) => Report {
+            outcome: Outcome::Err(e),
+            pixels: s.pixels,
+            orders: s.orders,
+        },
+    }
+}
+
+// The report of a picture that was refused before its stream.
+pub(crate) fn not_decoded(e: RleError) -> Report
+    ensures { λ r. ⌜ r ≡ notDecoded e ⌝ }
+{
+    Report {
+        outcome: Outcome::Err(e),
+        pixels: 0,
+        orders: 0,
     }
 }

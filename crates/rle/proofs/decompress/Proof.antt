@@ -1,8 +1,7 @@
 -- `decompress` meets its contract: refused for depth or sizes, for its target, or decoded. Assumes nothing.
-use mathlib.Core.Path.{refl, ap, sym, _∙_}
-use Rattle.rle.specs.declared.report.PictureSize.{PictureSize}
-use Rattle.rle.specs.Report.{sizeIn}
-use Rattle.rle.proofs.Calls.{sized, few, reports-away, reports-short, frame-good, format-good, reports-decoded}
+use mathlib.Core.Path.{refl}
+use Rattle.picture.proofs.Sizes.{matched, sized, few}
+use Rattle.rle.proofs.Calls.{reports-away, reports-short, frame-good, format-good, reports-decoded}
 use native.Mathlib.Omega.{arith}
 use borrow.Author.Needs.{needs}
 use Rattle.rle.proofs.decompress.Statement.{statement}
@@ -26,33 +25,31 @@ not-decoded-requires-2 c κs = search needs
 returns : tie.Need-returns
 returns c =
     let a = c .before .before .before .before .before .before .before .before .args in
-    reports-short (a .src .now) (a .dst .now) (a .bpp) (a .width) (a .height) _ (c .not-decoded2 .ensures) _ (ap (λ (x : PictureSize). sizeIn x) (sym (c .before .before .before .size2 .given .1)) ∙ c .before .before .before .before .before .picture-size .ensures) (c .before .if1 .taken) refl
+    reports-short (a .src .now) (a .dst .now) (a .bpp) (a .width) (a .height) _ (c .not-decoded2 .ensures) _ (matched (c .before .before .before .size2 .given .1) (c .before .before .before .before .before .picture-size .ensures)) (c .before .if1 .taken) refl
 
 depth-of-requires : tie.Need-depth-of-requires
-depth-of-requires c κs =
-    let a = c .before .before .before .before .before .before .before .args in
-    sized (a .bpp) (a .width) (a .height) _ (ap (λ (x : PictureSize). sizeIn x) (sym (c .before .before .size2 .given .1)) ∙ c .before .before .before .before .picture-size .ensures) .known
+depth-of-requires c κs = search needs
 
 mul-t16 : tie.Need-mul-t16
 mul-t16 c =
     let a = c .before .before .before .before .before .before .before .before .args in
-    let k = sized (a .bpp) (a .width) (a .height) _ (ap (λ (x : PictureSize). sizeIn x) (sym (c .before .before .before .size2 .given .1)) ∙ c .before .before .before .before .before .picture-size .ensures) in
+    let k = sized (a .bpp) (a .width) (a .height) _ (matched (c .before .before .before .size2 .given .1) (c .before .before .before .before .before .picture-size .ensures)) in
     omega (arith, few (k .width) (k .height))
 
 decompress-impl-requires : tie.Need-decompress-impl-requires
 decompress-impl-requires c κs =
     let a = c .before .before .before .before .before .before .before .before .before .args in
-    frame-good (a .src .now) (a .dst .now) (a .bpp) (a .width) (a .height) _ (ap (λ (x : PictureSize). sizeIn x) (sym (c .before .before .before .before .size2 .given .1)) ∙ c .before .before .before .before .before .before .picture-size .ensures) (c .before .before .if1 .left) _ (c .before .depth-of .ensures)
+    frame-good (a .src .now) (a .dst .now) (a .bpp) (a .width) (a .height) _ (matched (c .before .before .before .before .size2 .given .1) (c .before .before .before .before .before .before .picture-size .ensures)) (c .before .before .if1 .left) _ (c .before .depth-of .ensures)
 
 report-of-requires : tie.Need-report-of-requires
 report-of-requires c κs =
     let a = c .before .before .before .before .before .before .before .before .before .before .before .before .args in
-    format-good (a .src .now) (a .dst .now) (a .bpp) (a .width) (a .height) _ (ap (λ (x : PictureSize). sizeIn x) (sym (c .before .before .before .before .before .before .before .size2 .given .1)) ∙ c .before .before .before .before .before .before .before .before .before .picture-size .ensures) (c .before .before .before .before .before .if1 .left) _ (c .before .before .before .before .depth-of .ensures)
+    format-good (a .src .now) (a .dst .now) (a .bpp) (a .width) (a .height) _ (matched (c .before .before .before .before .before .before .before .size2 .given .1) (c .before .before .before .before .before .before .before .before .before .picture-size .ensures)) (c .before .before .before .before .before .if1 .left) _ (c .before .before .before .before .depth-of .ensures)
 
 returns-2 : tie.Need-returns-2
 returns-2 c =
     let a = c .before .before .before .before .before .before .before .args in
-    reports-away (a .src .now) (a .dst .now) (a .bpp) (a .width) (a .height) _ (c .not-decoded .ensures) (ap (λ (x : PictureSize). sizeIn x) (sym (c .before .before .size .given .1)) ∙ c .before .before .before .before .picture-size .ensures)
+    reports-away (a .src .now) (a .dst .now) (a .bpp) (a .width) (a .height) _ (c .not-decoded .ensures) (matched (c .before .before .size .given .1) (c .before .before .before .before .picture-size .ensures))
 
 same-length : tie.Need-same-length
 same-length c = search needs
@@ -60,7 +57,7 @@ same-length c = search needs
 returns-3 : tie.Need-returns-3
 returns-3 c =
     let a = c .before .before .before .before .before .before .before .before .before .before .before .before .before .args in
-    reports-decoded (a .src .now) (a .dst .now) (a .bpp) (a .width) (a .height) _ (ap (λ (x : PictureSize). sizeIn x) (sym (c .before .before .before .before .before .before .before .before .size2 .given .1)) ∙ c .before .before .before .before .before .before .before .before .before .before .picture-size .ensures) (c .before .before .before .before .before .before .if1 .left) _ (c .before .before .before .before .before .depth-of .ensures)
+    reports-decoded (a .src .now) (a .dst .now) (a .bpp) (a .width) (a .height) _ (matched (c .before .before .before .before .before .before .before .before .size2 .given .1) (c .before .before .before .before .before .before .before .before .before .before .picture-size .ensures)) (c .before .before .before .before .before .before .if1 .left) _ (c .before .before .before .before .before .depth-of .ensures)
     _ _ (c .before .before .before .decompress-impl .kept .1 .0) (λ i. omega (arith, c .before .before .before .before .before .before .before .before .before .before .before .before .shared-slice-known .given i)) (c .before .before .before .decompress-impl .ensures) (c .report-of .ensures)
 
 pub decompress-spec : {M : Type 1} → statement M

@@ -2,7 +2,7 @@
 use Prim.Native.Nat.{_+_, _-_, _≤_}
 use mathlib.Core.Path.{_≡_, refl, _∙_}
 use lib.ListN.{length, drop}
-use Rattle.rle.specs.Pixels.{pixelAt}
+use Rattle.picture.specs.Pixels.{pixelAt}
 use Rattle.rle.specs.Decode.{solid}
 use Rattle.rle.specs.Contracts.{Painted}
 use Rattle.rle.proofs.Painting.{painted-none, painted-more, painted-at, at-most-bytes, one-as, with-ink, solid-part, of-depth, image-ink, image-fits}

@@ -1,7 +1,7 @@
 -- `read_pixel` meets its contract: one, two or three bytes, by the depth. Assumes nothing.
 use borrow.Author.Needs.{needs}
 use native.Mathlib.Omega.{arith}
-use Rattle.rle.proofs.Pixels.{first-pixel-1, first-pixel-2, first-pixel-3}
+use Rattle.picture.proofs.Pixels.{first-pixel-1, first-pixel-2, first-pixel-3}
 use Rattle.rle.proofs.pixel.read_pixel.Statement.{statement}
 use Rattle.rle.proofs.pixel.read_pixel.Tie as tie
 

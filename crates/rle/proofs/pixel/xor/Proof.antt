@@ -1,7 +1,7 @@
 -- `xor` meets its contract: three bytes, each by computation. Assumes nothing.
 use borrow.Author.Needs.{needs}
 use mathlib.Core.Path.{refl}
-use Rattle.rle.specs.Pixels.{xorPixel}
+use Rattle.picture.specs.Pixels.{xorPixel}
 use Rattle.rle.proofs.pixel.xor.Statement.{statement}
 use Rattle.rle.proofs.pixel.xor.Tie as tie
 

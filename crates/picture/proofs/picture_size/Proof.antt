@@ -1,9 +1,9 @@
 -- `picture_size` meets its contract: one law for each test. Assumes nothing.
-use Rattle.rle.proofs.Calls.{size-bpp, size-width, size-height, size-wide, size-high, size-fits, few, few-bytes}
+use Rattle.picture.proofs.Sizes.{size-bpp, size-width, size-height, size-wide, size-high, size-fits, few, few-bytes}
 use native.Mathlib.Omega.{arith}
 use borrow.Author.Needs.{needs}
-use Rattle.rle.proofs.picture_size.Statement.{statement}
-use Rattle.rle.proofs.picture_size.Tie as tie
+use Rattle.picture.proofs.picture_size.Statement.{statement}
+use Rattle.picture.proofs.picture_size.Tie as tie
 
 depth-index-requires : tie.Need-depth-index-requires
 depth-index-requires c κs = search needs

@@ -7,10 +7,10 @@ use mathlib.Core.Bool.{Bool, true, false}
 use lib.Dec.{eqb, lit≤}
 use borrow.Author.Tests.{ne-eqb, eqb-true}
 use lib.ListN.{getD, List·getD-eq-default}
-use Rattle.rle.specs.declared.depth.Depth.{Depth as CodeDepth}
-use Rattle.rle.specs.Pixels.{pick, firstPixel}
-use Rattle.rle.specs.Decode.{Depth, depths, noDepth, depthIndex, depthOf}
-use Rattle.rle.specs.Contracts.{OfDepth, depthIn}
+use Rattle.picture.specs.declared.depth.Depth.{Depth as CodeDepth}
+use Rattle.picture.specs.Pixels.{OfDepth, pick, firstPixel}
+use Rattle.picture.specs.Sizes.{Depth, depths, noDepth, depthIndex, depthOf}
+use Rattle.picture.specs.Outcomes.{depthIn}
 
 -- a fact of every row
 by-row : (P : ℕ → Type 0) → P 0 → P 1 → P 2 → P 3 → (i : ℕ) → i < 4 → P i
@@ -48,9 +48,9 @@ depth-good bpp h =
     (record { low = lit≤ tt; high = lit≤ tt; white = refl; black = refl; listed = lit≤ tt })
     (depthIndex bpp) h
 
-pub no-depth : (bpp : ℕ) → 4 ≤ depthIndex bpp → 0 ≡ depthOf bpp .bytes
-unfolding depths noDepth depthOf
-no-depth bpp h = sym (ap (λ (d : Depth). d .bytes) (List·getD-eq-default depths noDepth h))
+pub no-depth : (bpp i : ℕ) → i ≡ depthIndex bpp → 4 ≤ i → noDepth ≡ depthOf bpp
+unfolding depths depthOf
+no-depth bpp i e h = sym (List·getD-eq-default depths noDepth (rw e at h))
 
 -- a format that is none of the first three
 pub last-format : (k : ℕ) → depthIndex k < 4 → (k ≡ 8 → ⊥) → (k ≡ 15 → ⊥) → (k ≡ 16 → ⊥) → 24 ≡ k

@@ -1,8 +1,8 @@
 -- `pixel_format` meets its contract: the four rows of the depth table. Assumes nothing.
-use Rattle.rle.proofs.Depths.{last-format}
+use Rattle.picture.proofs.Depths.{last-format}
 use borrow.Author.Needs.{needs}
-use Rattle.rle.proofs.pixel_format.Statement.{statement}
-use Rattle.rle.proofs.pixel_format.Tie as tie
+use Rattle.rle.proofs.report.pixel_format.Statement.{statement}
+use Rattle.rle.proofs.report.pixel_format.Tie as tie
 
 returns : tie.Need-returns
 returns c = search needs

@@ -1,8 +1,8 @@
 -- `depth_index` meets its contract: a case for each depth, and one for all others. Assumes nothing.
-use Rattle.rle.specs.Decode.{depthIndex}
+use Rattle.picture.specs.Sizes.{depthIndex}
 use borrow.Author.Tests.{ne-eqb}
-use Rattle.rle.proofs.depth.depth_index.Statement.{statement}
-use Rattle.rle.proofs.depth.depth_index.Tie as tie
+use Rattle.picture.proofs.depth.depth_index.Statement.{statement}
+use Rattle.picture.proofs.depth.depth_index.Tie as tie
 
 returns : tie.Need-returns
 unfolding depthIndex

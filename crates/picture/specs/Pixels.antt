@@ -1,5 +1,6 @@
 -- Pixels, and the bytes that they stand in. A pixel travels as three bytes, low byte first, unused ones zero. D is how many of
 -- them a depth uses: so many stand in the stream and in the picture.
+use mathlib.Core.Path.{_≡_}
 use mathlib.Core.List.{List, [], _∷_, _++_}
 use mathlib.Core.Bool.{Bool, true, false}
 use Prim.Native.Nat.{ℕ, _*_}
@@ -18,6 +19,10 @@ pick false a b = b
 -- the pixel that the bytes xs start with
 unfoldable pub firstPixel : ℕ → List ℕ → Pixel
 firstPixel D xs = getD xs 0 0 ∷ pick (ltb 1 D) (getD xs 1 0) 0 ∷ pick (ltb 2 D) (getD xs 2 0) 0 ∷ []
+
+-- p is a pixel of D bytes: its unused bytes are zero
+abbrev pub OfDepth : ℕ → Pixel → Type 0
+OfDepth D p = firstPixel D p ≡ p
 
 -- pixel number k of the bytes xs
 unfoldable pub pixelAt : ℕ → List ℕ → ℕ → Pixel

@@ -1,0 +1,3 @@
+pub mod Depths
+pub mod Sizes
+pub mod Pixels

@@ -1,0 +1,3 @@
+pub mod Pixels
+pub mod Sizes
+pub mod Outcomes
