@@ -10,13 +10,12 @@ use native.Mathlib.Omega.{arith}
 use lib.Dec.{leb}
 use lib.ListN.{length}
 use borrow.Author.Tests.{leb-true}
-use Rattle.rle.specs.Decode.{checked, depthOf}
-use Rattle.rle.specs.Report.{Size, bytes, refused, sizeOf}
+use Rattle.picture.specs.Sizes.{checked, depthOf, Size, bytes, refused, sizeOf}
 use Rattle.color.specs.Colors.{Triple, paletteFits}
 use Rattle.color.specs.SamePicture.{Picture, both, valid, hasSpace, colorAt, sameTriple, sameColors}
 use Rattle.color.specs.Contracts.{Expandable}
 use Rattle.color.proofs.Triples.{never, all-true}
-use Rattle.rle.proofs.Calls.{sized}
+use Rattle.picture.proofs.Sizes.{sized}
 
 both-false : (t : Bool) → both t false ≡ false
 both-false true = refl

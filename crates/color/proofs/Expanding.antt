@@ -7,8 +7,8 @@ use native.Mathlib.Omega.{arith}
 use lib.ListN.{length, getD}
 use lib.Seq.{getD-drop}
 use borrow.Author.Tests.{leb-true}
-use Rattle.rle.specs.Pixels.{pixelAt, firstPixel}
-use Rattle.rle.specs.Decode.{depthIndex, depthOf, depths}
+use Rattle.picture.specs.Pixels.{pixelAt, firstPixel}
+use Rattle.picture.specs.Sizes.{depthIndex, depthOf, depths}
 use Rattle.color.specs.Colors.{colorOf, entry, expand15, expand16, paletteFits}
 use Rattle.color.specs.Contracts.{Expandable}
 

@@ -8,7 +8,7 @@ use native.Mathlib.Omega.{arith}
 use lib.Dec.{eqb}
 use lib.ListN.{length}
 use borrow.Author.Tests.{eqb-true, eq-eqb}
-use Rattle.rle.specs.Pixels.{pick, pixelAt, firstPixel}
+use Rattle.picture.specs.Pixels.{pick, pixelAt, firstPixel}
 use Rattle.color.specs.Colors.{Triple, colorOf, entry, expand15, expand16}
 use Rattle.color.specs.SamePicture.{Picture, Alike, both, valid, colorAt, sameTriple, sameColors, samePicture}
 use Rattle.color.proofs.Triples.{never, same-equal, equal-same}

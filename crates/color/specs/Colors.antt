@@ -6,10 +6,9 @@ use mathlib.Core.Bool.{Bool, true}
 use Prim.Native.Nat.{ℕ, _+_, _*_, _/_, _%_}
 use lib.Dec.{eqb, leb}
 use lib.ListN.{length, getD}
-use Rattle.rle.specs.Pixels.{Pixel, pick}
-use Rattle.rle.specs.Orders.{Refusal, refusal}
-use Rattle.rle.specs.Decode.{depthIndex}
-use Rattle.rle.specs.Report.{refusalOf}
+use Rattle.picture.specs.Pixels.{Pixel, pick}
+use Rattle.picture.specs.Sizes.{Refusal, refusal, depthIndex}
+use Rattle.picture.specs.Outcomes.{refusalOf}
 use Rattle.color.specs.declared.pixel.Expansion.{Expansion}
 use Rattle.color.specs.declared.pixel.Expansion.the-variants.{Done, Refused}
 use Rattle.color.specs.declared.pixel.Expanded.{Expanded}

@@ -4,7 +4,7 @@ use mathlib.Core.List.{List}
 use mathlib.Core.Bool.{true}
 use Prim.Native.Nat.{ℕ, _*_, _≤_, _<_}
 use lib.ListN.{length}
-use Rattle.rle.specs.Decode.{depthIndex, depthOf}
+use Rattle.picture.specs.Sizes.{depthIndex, depthOf}
 use Rattle.color.specs.Colors.{paletteFits}
 
 -- the first n pixels of the bytes xs can be expanded

@@ -6,9 +6,8 @@ use mathlib.Core.Bool.{Bool, true, false}
 use Prim.Native.Nat.{ℕ, zero, suc, _*_, _<_}
 use lib.Dec.{eqb, leb}
 use lib.ListN.{length, getD}
-use Rattle.rle.specs.Pixels.{pick, pixelAt}
-use Rattle.rle.specs.Decode.{depthOf, checked}
-use Rattle.rle.specs.Report.{Size, bytes, refused, sizeOf}
+use Rattle.picture.specs.Pixels.{pick, pixelAt}
+use Rattle.picture.specs.Sizes.{depthOf, checked, Size, bytes, refused, sizeOf}
 use Rattle.color.specs.declared.same.Shape.{Shape}
 use Rattle.color.specs.Colors.{Triple, colorOf, paletteFits}
 

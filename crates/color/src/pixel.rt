@@ -1,10 +1,10 @@
 // Expansion of one pixel to blue, green and red.
 ghost use mathlib.Core.Path.{_≡_};
 ghost use Prim.Native.Nat.{_<_};
-ghost use Rattle.rle.specs.Report.{refusalOf};
+ghost use Rattle.picture.specs.Outcomes.{refusalOf};
 ghost use Rattle.color.specs.Colors.{channel5, channel6, expand15, expand16, expanded, answerIn, giving, refusing};
 use crate::palette::entry_at;
-use rle::RleError;
+use picture::RleError;
 
 pub enum Expansion {
     Done,

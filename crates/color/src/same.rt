@@ -2,8 +2,8 @@
 ghost use mathlib.Core.Path.{_≡_};
 ghost use Prim.Native.Nat.{_+_, _*_, _≤_};
 ghost use lib.ListN.{length};
-ghost use Rattle.rle.specs.Pixels.{pixelAt};
-ghost use Rattle.rle.specs.Decode.{depthOf};
+ghost use Rattle.picture.specs.Pixels.{pixelAt};
+ghost use Rattle.picture.specs.Sizes.{depthOf};
 ghost use Rattle.color.specs.Colors.{colorOf};
 ghost use Rattle.color.specs.SamePicture.{samePicture, sameColors, valid, pictureOf};
 ghost use Rattle.color.specs.Contracts.{Expandable};
@@ -12,7 +12,7 @@ use crate::palette::same_triple;
 use crate::pixel::from_15_bits;
 use crate::pixel::from_16_bits;
 use crate::pixel::wide;
-use rle::PictureSize;
+use picture::PictureSize;
 
 // A picture's numbers: `pixels` of its pixels are painted. Its bytes stand in a slice beside it.
 pub struct Shape {
@@ -26,7 +26,7 @@ pub struct Shape {
 pub(crate) fn is_valid(slice: &[u8], shape: Shape, palette: &[u8]) -> bool
     ensures { λ r. ⌜ r ≡ valid (now (palette .entry)) (pictureOf (now (slice .entry)) shape) ⌝ }
 {
-    let size = rle::picture_size(shape.width, shape.height, shape.bpp);
+    let size = picture::picture_size(shape.width, shape.height, shape.bpp);
     match size {
         PictureSize::Refused(_) => false,
         PictureSize::Bytes(n) => {

@@ -4,8 +4,8 @@ use mathlib.Core.Bool.{Bool}
 use Prim.Native.Nat.{ℕ, _≤_}
 use lib.Dec.{ltb}
 use lib.ListN.{getD}
-use Rattle.rle.specs.Pixels.{pick}
-use Rattle.rle.specs.Orders.{Refusal}
+use Rattle.picture.specs.Pixels.{pick}
+use Rattle.picture.specs.Sizes.{Refusal}
 use Rattle.color.specs.declared.palette.Look.{Look}
 use Rattle.color.specs.declared.palette.Look.the-variants.{At, Nothing}
 use Rattle.color.specs.Colors.{Triple, Answer}

@@ -2,10 +2,10 @@
 use mathlib.Core.List.{List, [], _∷_, _++_}
 use Prim.Native.Nat.{ℕ, _*_}
 use lib.ListN.{length, drop}
-use Rattle.rle.specs.declared.report.Outcome.{Outcome}
-use Rattle.rle.specs.Pixels.{bytesOf}
+use Rattle.picture.specs.declared.outcome.Outcome.{Outcome}
+use Rattle.picture.specs.Pixels.{bytesOf}
 use Rattle.rle.specs.Decode.{Result}
-use Rattle.rle.specs.Report.{refusalIn, formatIn}
+use Rattle.picture.specs.Outcomes.{refusalIn, formatIn}
 
 -- format, refusal's number and two values, pixels, orders, and two that are kept for later
 unfoldable pub numbers : Result → List ℕ

@@ -8,7 +8,7 @@ ghost use Rattle.nulambiro.specs.ColorNumbers.{numbersOf, answerNumbers,
 use color::Expansion;
 use color::Look;
 use color::Shape;
-use rle::Outcome;
+use picture::Outcome;
 
 pub(crate) fn expansion_numbers(answer: Expansion, bgr: [u8; 3]) -> [u64; 8]
     ensures { λ r. ⌜ r ≡ numbersOf (refusalIn answer) bgr ⌝ }
@@ -19,7 +19,7 @@ pub(crate) fn expansion_numbers(answer: Expansion, bgr: [u8; 3]) -> [u64; 8]
     match answer {
         Expansion::Done => [0, 0, 0, b, g, r, 0, 0],
         Expansion::Refused(e) => {
-            let n = rle::numbers_of(Outcome::Err(e));
+            let n = picture::numbers_of(Outcome::Err(e));
             [
                 n.refusal as u64,
                 n.first as u64,

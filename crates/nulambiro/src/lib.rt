@@ -6,10 +6,10 @@ ghost use Rattle.nulambiro.specs.Numbers.{reportOf, numbers, target};
 
 pub mod colors;
 
-pub(crate) fn report_of(o: rle::Outcome, pixels: usize, orders: usize) -> [u64; 8]
+pub(crate) fn report_of(o: picture::Outcome, pixels: usize, orders: usize) -> [u64; 8]
     ensures { λ r. ⌜ r ≡ reportOf o pixels orders ⌝ }
 {
-    let n = rle::numbers_of(o);
+    let n = picture::numbers_of(o);
     [
         n.format as u64,
         n.refusal as u64,

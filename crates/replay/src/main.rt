@@ -75,10 +75,10 @@ fn checksum(target: &[u8]) -> usize {
 }
 
 fn target_len(p: Picture) -> usize {
-    let size = rle::picture_size(p.width, p.height, p.bpp);
+    let size = picture::picture_size(p.width, p.height, p.bpp);
     match size {
-        rle::PictureSize::Bytes(n) => n,
-        rle::PictureSize::Refused(_) => 64,
+        picture::PictureSize::Bytes(n) => n,
+        picture::PictureSize::Refused(_) => 64,
     }
 }
 
@@ -122,7 +122,7 @@ fn decoded(stream: &[u8], target: &mut [u8], p: Picture) -> Answer {
     preset(target);
     let r = rle::decompress(stream, target, p.width, p.height, p.bpp);
     let o = r.outcome;
-    let n = rle::numbers_of(o);
+    let n = picture::numbers_of(o);
     Answer {
         format: n.format,
         refusal: n.refusal,

@@ -4,10 +4,10 @@ ghost use Prim.Native.Nat.{_+_, _*_, _%_, _≤_, _<_};
 ghost use lib.ListN.{length, drop};
 ghost use Rattle.rle.specs.Orders.{kindNumber, lengthOf, shortLength, megaMegaLength};
 ghost use Rattle.rle.specs.Contracts.{Reads};
-use picture::RleError;
 use buf::Read;
 use buf::u8_from;
 use buf::u16_from;
+use picture::RleError;
 
 // The kind of each header byte, by its number in the definition's table: 0 background run, 1 foreground run, 2 fg/bg image,
 // 3 color run, 4 color image, 5 set-foreground run, 6 set-foreground fg/bg image, 7 dithered run, 8 and 9 special fg/bg 1 and 2,

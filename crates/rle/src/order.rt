@@ -11,7 +11,6 @@ ghost use Rattle.rle.specs.Contracts.{frameOf, fgOf, bgOf, inkOf, reach,
 use crate::code::RunLength;
 use crate::code::extract_run_length;
 use crate::code::kind;
-use picture::Depth;
 use crate::paint::Ink;
 use crate::paint::Mode;
 use crate::paint::paint_bg_run;
@@ -21,6 +20,7 @@ use crate::paint::paint_mask;
 use crate::paint::paint_run;
 use crate::paint::solid;
 use crate::pixel::read_pixel;
+use picture::Depth;
 use picture::RleError;
 
 // What a picture's orders go by: its depth, its width, and its pixels.

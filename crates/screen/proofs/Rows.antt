@@ -6,12 +6,11 @@ use native.Mathlib.Nat.{mul-le-mul, mul-le-mul-right, add-mul, one-mul, mul-comm
 use native.Mathlib.Omega.{arith}
 use lib.Dec.{leb, ltb}
 use borrow.Author.Tests.{leb-true, ltb-true}
-use Rattle.rle.specs.Pixels.{pick}
-use Rattle.rle.specs.Decode.{checked, depthOf}
-use Rattle.rle.specs.Report.{Size, bytes, refused, sizeOf}
+use Rattle.picture.specs.Pixels.{pick}
+use Rattle.picture.specs.Sizes.{checked, depthOf, Size, bytes, refused, sizeOf}
 use Rattle.color.specs.SamePicture.{hasSpace}
-use Rattle.rle.proofs.Calls.{Sized, sized, few}
-use Rattle.rle.proofs.Depths.{depth-good}
+use Rattle.picture.proofs.Sizes.{Sized, sized, few}
+use Rattle.picture.proofs.Depths.{depth-good}
 use Rattle.screen.specs.Rows.{RowPart, rowPart, noPart, partIn, partToShow}
 
 -- ---- products

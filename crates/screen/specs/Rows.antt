@@ -5,9 +5,8 @@ use mathlib.Core.Bool.{Bool, false}
 use Prim.Native.Nat.{ℕ, _+_, _*_}
 use lib.Dec.{ltb}
 use lib.ListN.{length, take, drop}
-use Rattle.rle.specs.Pixels.{pick}
-use Rattle.rle.specs.Decode.{checked, depthOf}
-use Rattle.rle.specs.Report.{Size, sizeOf}
+use Rattle.picture.specs.Pixels.{pick}
+use Rattle.picture.specs.Sizes.{checked, depthOf, Size, sizeOf}
 use Rattle.color.specs.SamePicture.{hasSpace}
 use Rattle.screen.specs.declared.Part.{Part}
 

@@ -3,7 +3,7 @@
 // What it is, is defined in specs/Rows.antt.
 ghost use mathlib.Core.Path.{_≡_};
 ghost use Rattle.screen.specs.Rows.{noPart, partOf, partToShow, rowToShow};
-use rle::PictureSize;
+use picture::PictureSize;
 
 // A part of the new picture or of the one on screen, in bytes.
 pub struct Part {
@@ -34,7 +34,7 @@ pub fn part_to_show(
 ) -> Part
     ensures { λ p. ⌜ partOf p ≡ partToShow new pixels screen bpp width height r ⌝ }
 {
-    let size = rle::picture_size(width, height, bpp);
+    let size = picture::picture_size(width, height, bpp);
     match size {
         PictureSize::Refused(_) => nothing(),
         PictureSize::Bytes(n) => {
@@ -48,7 +48,7 @@ pub fn part_to_show(
             if height <= r {
                 return nothing();
             }
-            let row = width * rle::bytes_per_pixel(bpp);
+            let row = width * picture::bytes_per_pixel(bpp);
             Part {
                 on_screen: pixels < (r + 1) * width,
                 start: r * row,

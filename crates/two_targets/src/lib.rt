@@ -1,7 +1,4 @@
 // Decoding one stream into two targets: the guarantee that no old byte shows, as the contract of two calls of `decompress`.
-ghost use mathlib.Core.Path.{_≡_};
-ghost use lib.ListN.{length};
-ghost use Rattle.rle.specs.Decode.{resultIn};
 ghost use Rattle.rle.specs.Report.{Decompresses};
 ghost use Rattle.rle.specs.Guarantees.{HasSpace, NoOldByte};
 
@@ -18,8 +15,8 @@ pub fn decompress_twice(
     height: usize,
     bpp: usize,
 ) -> Reports
-    ensures { λ r. ⌜ Decompresses (now (src .entry)) (now (first .entry)) (now (first .exit)) (r .first) (resultIn (length (now (first .entry))) (now (src .entry)) bpp width height) ⌝ }
-    ensures { λ r. ⌜ Decompresses (now (src .entry)) (now (second .entry)) (now (second .exit)) (r .second) (resultIn (length (now (second .entry))) (now (src .entry)) bpp width height) ⌝ }
+    ensures { λ r. ⌜ Decompresses (now (src .entry)) bpp width height (now (first .entry)) (now (first .exit)) (r .first) ⌝ }
+    ensures { λ r. ⌜ Decompresses (now (src .entry)) bpp width height (now (second .entry)) (now (second .exit)) (r .second) ⌝ }
     ensures { λ r. ⌜ (HasSpace (now (first .entry)) bpp width height → HasSpace (now (second .entry)) bpp width height → NoOldByte (now (src .entry)) bpp width height (now (first .entry)) (now (first .exit)) (r .first) (now (second .entry)) (now (second .exit)) (r .second)) ⌝ }
 {
     let a = rle::decompress(src, first, width, height, bpp);

@@ -4,7 +4,7 @@ use borrow.Author.Needs.{needs}
 use borrow.Author.Tests.{le-leb, lt-leb, lt-ltb, le-ltb}
 use native.Mathlib.Omega.{arith}
 use Rattle.color.specs.SamePicture.{hasSpace}
-use Rattle.rle.proofs.Calls.{Sized, sized}
+use Rattle.picture.proofs.Sizes.{Sized, sized}
 use Rattle.screen.specs.Rows.{partToShow, partIn}
 use Rattle.screen.proofs.Rows.{row-small, row-ends, pixels-small}
 use Rattle.screen.proofs.part_to_show.Statement.{statement}

@@ -2,7 +2,7 @@
 -- Assumes nothing.
 use borrow.Author.Needs.{needs}
 use borrow.Author.Tests.{ne-eqb, lt-leb, le-leb}
-use Rattle.rle.specs.Decode.{depthIndex}
+use Rattle.picture.specs.Sizes.{depthIndex}
 use Rattle.color.specs.Colors.{expanded, colorOf, paletteFits}
 use Rattle.color.proofs.pixel.expand.Statement.{statement}
 use Rattle.color.proofs.pixel.expand.Tie as tie

@@ -2,7 +2,7 @@
 use borrow.Author.Needs.{needs}
 use native.Mathlib.Omega.{arith}
 use mathlib.Core.Path.{_≡_, sym}
-use Rattle.rle.proofs.Depths.{last-format}
+use Rattle.picture.proofs.Depths.{last-format}
 use Rattle.color.proofs.Expanding.{fits, palette-long, bytes-8, bytes-15, bytes-16, bytes-24, color-8, color-15, color-16, color-24}
 use Rattle.color.proofs.same.color_at.Statement.{statement}
 use Rattle.color.proofs.same.color_at.Tie as tie

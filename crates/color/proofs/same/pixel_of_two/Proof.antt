@@ -1,8 +1,8 @@
 -- `pixel_of_two` meets its contract. Assumes nothing.
 use borrow.Author.Needs.{needs}
 use mathlib.Core.Path.{refl}
-use Rattle.rle.specs.Pixels.{pixelAt}
-use Rattle.rle.proofs.Pixels.{first-pixel-2}
+use Rattle.picture.specs.Pixels.{pixelAt}
+use Rattle.picture.proofs.Pixels.{first-pixel-2}
 use Rattle.color.proofs.same.pixel_of_two.Statement.{statement}
 use Rattle.color.proofs.same.pixel_of_two.Tie as tie
 
