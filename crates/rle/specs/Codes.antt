@@ -25,7 +25,11 @@ unfoldable pub tabulate : (ℕ → ℕ) → ℕ → ℕ → List ℕ
 tabulate f i zero = []
 tabulate f i (suc n) = f i ∷ tabulate f (suc i) n
 
--- all 256 headers, by one computation
-pub kinds-by-masks : tabulate kindNumber 0 256 ≡ tabulate (λ h. kindOfCode (codeOf h)) 0 256
-unfolding tabulate kindNumber numberIn hasHeader isMegaMega rows row kindOfCode codeOf
+-- the kind of each of the 256 headers
+unfoldable pub kinds : List ℕ
+kinds = tabulate kindNumber 0 256
+
+-- by masks they are the same, all 256 by one computation
+pub kinds-by-masks : kinds ≡ tabulate (λ h. kindOfCode (codeOf h)) 0 256
+unfolding kinds tabulate kindNumber numberIn hasHeader isMegaMega rows row kindOfCode codeOf
 kinds-by-masks = refl

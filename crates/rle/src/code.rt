@@ -3,6 +3,7 @@ ghost use mathlib.Core.Path.{_≡_};
 ghost use Prim.Native.Nat.{_+_, _*_, _%_, _≤_, _<_};
 ghost use lib.ListN.{length, drop};
 ghost use Rattle.rle.specs.Orders.{kindNumber, lengthOf, shortLength, megaMegaLength};
+ghost use Rattle.rle.specs.Codes.{kinds};
 ghost use Rattle.rle.specs.Contracts.{Reads};
 use buf::Read;
 use buf::u8_from;
@@ -271,10 +272,18 @@ const KINDS: [u8; 256] = [
     12,
 ];
 
-pub(crate) fn kind(header: u8) -> u8
+// The table, to be made once a call and lent from then on: as a constant it would be built anew at every lookup.
+pub(crate) fn header_kinds() -> [u8; 256]
+    ensures { λ r. ⌜ r ≡ kinds ⌝ }
+{
+    KINDS
+}
+
+pub(crate) fn kind(table: &[u8; 256], header: u8) -> u8
+    requires { ⌜ now table ≡ kinds ⌝ }
     ensures { λ r. ⌜ r ≡ kindNumber header ⌝ }
 {
-    KINDS[header as usize]
+    table[header as usize]
 }
 
 // A run length and the next place in the stream, or a refusal and the place where it came.

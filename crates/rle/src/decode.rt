@@ -1,7 +1,8 @@
-// The whole stream: the refusals before it, and the loop over its orders.
+// The whole stream: the loop over its orders.
 ghost use mathlib.Core.Path.{_≡_};
 ghost use lib.ListN.{length};
 ghost use Rattle.rle.specs.Contracts.{frameOf, startOf, Framed, Ran};
+use crate::code::header_kinds;
 use crate::order::Answer;
 use crate::order::Frame;
 use crate::order::State;
@@ -29,6 +30,7 @@ pub(crate) fn decompress_impl(src: &[u8], dst: &mut [u8], f: Frame) -> Stepped
     requires { ⌜ Framed (length (now dst)) (frameOf f) ⌝ }
     ensures { λ r. ⌜ Ran (frameOf f) (now (src .entry)) (now (dst .entry)) (now (dst .exit)) r ⌝ }
 {
+    let kinds = header_kinds();
     let mut s = start(f);
     loop {
         let pos = s.pos;
@@ -38,7 +40,7 @@ pub(crate) fn decompress_impl(src: &[u8], dst: &mut [u8], f: Frame) -> Stepped
                 state: s,
             };
         }
-        let r = order(src, dst, f, s);
+        let r = order(src, dst, &kinds, f, s);
         let a = r.answer;
         if let Answer::Refused(_) = a {
             return r;

@@ -6,6 +6,7 @@ ghost use Prim.Native.Nat.{_+_, _-_, _*_, _≤_, _<_, min};
 ghost use lib.ListN.{length, drop};
 ghost use Rattle.picture.specs.Pixels.{pixelAt, OfDepth};
 ghost use Rattle.rle.specs.Orders.{kindOf};
+ghost use Rattle.rle.specs.Codes as codes;
 ghost use Rattle.rle.specs.Decode as decode;
 ghost use Rattle.rle.specs.Contracts.{frameOf, fgOf, bgOf, inkOf, reach, Framed, Sound, Did, completedOf, refusedOf, tooLargeOf, atPos, withFg, advancedBy, firstRowEnded};
 use crate::code::RunLength;
@@ -470,16 +471,23 @@ pub(crate) fn end_first_row(f: Frame, s: State) -> State
 }
 
 // One order, of a stream with a byte left.
-pub(crate) fn order(src: &[u8], dst: &mut [u8], f: Frame, s: State) -> Stepped
+pub(crate) fn order(
+    src: &[u8],
+    dst: &mut [u8],
+    kinds: &[u8; 256],
+    f: Frame,
+    s: State,
+) -> Stepped
     requires { ⌜ Framed (length (now dst)) (frameOf f) ⌝ }
     requires { ⌜ Sound (frameOf f) (length (now src)) s ⌝ }
     requires { ⌜ s .pos < length (now src) ⌝ }
+    requires { ⌜ now kinds ≡ codes.kinds ⌝ }
     ensures { λ r. ⌜ Did (frameOf f) (now (src .entry)) (now (dst .entry)) (now (dst .exit)) s r (decode.step (frameOf f)) ⌝ }
     ensures { λ r. ⌜ s .pos < r .state .pos ⌝ }
 {
     let pos = s.pos;
     let header = src[pos];
-    let c = kind(header);
+    let c = kind(kinds, header);
     let t = end_first_row(f, s);
     let l = extract_run_length(src, pos + 1, header, c);
     match l {

@@ -1,17 +1,23 @@
--- `kind` meets its contract: the code's table is that of the definition's rule at all 256 headers, by computation. Assumes nothing.
+-- `kind` meets its contract: an entry of the table is the definition's kind of that header. Assumes nothing.
+use mathlib.Core.Path.{ap, _∙_}
+use mathlib.Core.List.{List}
+use Prim.Native.Nat.{ℕ}
+use lib.ListN.{getD}
 use borrow.Author.Needs.{needs}
-use Rattle.rle.specs.Orders.{kindNumber, numberIn, hasHeader, isMegaMega, rows, row}
-use Rattle.rle.specs.Codes.{tabulate}
+use Rattle.rle.specs.Orders.{kindNumber}
+use Rattle.rle.specs.Codes.{kinds}
 use Rattle.rle.proofs.Table.{getD-tabulate}
 use Rattle.rle.proofs.code.kind.Statement.{statement}
 use Rattle.rle.proofs.code.kind.Tie as tie
 
-array-read-result : tie.Need-array-read-result
-array-read-result c = search needs
+element-copy-out-result : tie.Need-element-copy-out-result
+element-copy-out-result c = search needs
 
 returns : tie.Need-returns
-unfolding tabulate kindNumber numberIn hasHeader isMegaMega rows row
-returns c = getD-tabulate kindNumber 256 (c .args .header) (search needs)
+unfolding kinds
+returns c =
+    ap (λ (l : List ℕ). getD l (c .before .args .header) 0) (c .before .pre)
+    ∙ getD-tabulate kindNumber 256 (c .before .args .header) (search needs)
 
 pub kind-spec : {M : Type 1} → statement M
-kind-spec = tie.close (tie.spec array-read-result returns)
+kind-spec = tie.close (tie.spec element-copy-out-result returns)
