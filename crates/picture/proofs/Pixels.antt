@@ -9,7 +9,7 @@ use lib.Dec.{ltb}
 use lib.ListN.{length, getD, take, drop}
 use lib.Seq.{getD-drop, getD-take, length-take-le, ext-getD}
 use borrow.Author.Tests.{ltb-true, lt-ltb}
-use Rattle.picture.specs.Pixels.{OfDepth, pick, firstPixel}
+use Rattle.picture.specs.Pixels.{pick, firstPixel}
 
 -- it sees only its own bytes
 pick-cong : (t : Bool) (x y : ℕ) → (t ≡ true → x ≡ y) → pick t x 0 ≡ pick t y 0

@@ -15,7 +15,7 @@ use Rattle.rle.specs.Orders.{Kind, BgRun, FgRun, FgBgImage, ColorRun, Co
 use Rattle.picture.specs.Sizes.{Frame}
 use Rattle.rle.specs.Decode.{State, Step, done, refused, Ink, maskInk, ditherInk, fg, bg, paint, paintOrder, tooLarge, completed, withPainted, withLeft, withForeground, room, needBytes, tooShort, bgRun, fgRun, setForeground, setFgRun, colorRun, ditheredRun, colorImage, specialFgBg, oneMask, andThen, masks, fgBgImage, setFgBgImage, orderOf, orderFrom, endFirstRow, step, Run, ended, paused, stopped, atEnd, thenRun, run, decode, start}
 use Rattle.rle.proofs.Lengths.{by-number}
-use Rattle.rle.proofs.FgBg.{length-paint}
+use Rattle.rle.proofs.Painting.{length-paint}
 
 -- the bytes of a stream
 abbrev pub Bytes : List ℕ → Type 0

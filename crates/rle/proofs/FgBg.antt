@@ -2,13 +2,13 @@
 use mathlib.Core.Path.{_≡_, refl, ap, sym, _∙_, subst}
 use mathlib.Core.List.{List, [], _∷_}
 use mathlib.Core.Bool.{Bool, true, false}
-use Prim.Native.Nat.{ℕ, zero, suc, _+_, _*_, _-_, _≤_, _<_, min}
-use native.Mathlib.Nat.{le-refl, add-zero, mul-le-mul-right}
+use Prim.Native.Nat.{ℕ, _+_, _*_, _-_, _≤_, _<_, min}
+use native.Mathlib.Nat.{le-refl, add-zero}
 use native.Mathlib.Numerals.{add-one}
 use native.Mathlib.Omega.{arith}
 use lib.Dec.{leb}
-use lib.ListN.{length, getD, drop, drop-of-length-le, length-append}
-use lib.Seq.{drop-cons, drop-drop}
+use lib.ListN.{length, getD, drop, drop-of-length-le}
+use lib.Seq.{drop-cons}
 use borrow.Author.Tests.{eq-eqb, ne-eqb}
 use Rattle.rle.specs.declared.order.State.{State as CodeState}
 use Rattle.rle.specs.declared.order.Stepped.{Stepped}
@@ -16,25 +16,13 @@ use Rattle.rle.specs.declared.order.Answer.{Answer}
 use Rattle.rle.specs.declared.order.Answer.the-variants.{Done, Refused}
 use Rattle.picture.specs.declared.outcome.RleError.{RleError}
 use Rattle.picture.specs.declared.outcome.RleError.the-variants.{NotEnoughBytes}
-use Rattle.picture.specs.Pixels.{Pixel, pick}
+use Rattle.picture.specs.Pixels.{pick}
 use Rattle.picture.specs.Sizes.{Refusal, Frame}
-use Rattle.rle.specs.Decode.{Ink, color, paint, maskInk, fg, bg, withPainted, withLeft, room, tooLarge, State, Step, done, refused, masks, fgBgImage, oneMask, andThen, tooShort, completed}
+use Rattle.rle.specs.Decode.{paint, maskInk, fg, bg, withPainted, withLeft, room, tooLarge, State, Step, done, refused, masks, fgBgImage, oneMask, andThen, tooShort, completed}
 use Rattle.rle.specs.Contracts.{pixelsOf, Sound, Did, stateOf, stepOf, atPos, completedOf, refusedOf, outcomeOf}
 use Rattle.rle.proofs.Pixels.{length-pixelsOf}
-
--- what is kept from a place on is kept from each later place on
-pub rest-later : (D p q : ℕ) (xs ys : List ℕ) → p ≤ q → drop (p * D) xs ≡ drop (p * D) ys → drop (q * D) xs ≡ drop (q * D) ys
-rest-later D p q xs ys h e =
-    let m : q * D ≡ p * D + (q * D - p * D) = omega (arith, mul-le-mul-right {m = p} {n = q} D h) in
-    rw m (sym (drop-drop (q * D - p * D) (p * D) xs) ∙ ap (λ (l : List ℕ). drop (q * D - p * D) l) e ∙ drop-drop (q * D - p * D) (p * D) ys)
-
-pub length-paint : (w : ℕ) (ink : ℕ → Ink) (n : ℕ) (ps : List Pixel) → length (paint w ink n ps) ≡ length ps + n
-unfolding paint
-length-paint w ink zero ps = sym (add-zero (length ps))
-length-paint w ink (suc n) ps =
-    length-append (paint w ink n ps) (color w (paint w ink n ps) (ink n) ∷ [])
-    ∙ ap (λ (m : ℕ). m + 1) (length-paint w ink n ps)
-    ∙ omega arith
+use Rattle.rle.proofs.Painting.{rest-later, length-paint}
+use Rattle.rle.proofs.Orders.{sound-more}
 
 -- what holds before each mask: `left` pixels are to go
 pub record Mid (f : Frame) (src dst₀ : List ℕ) (t₀ : CodeState) (n : ℕ) (dst : List ℕ) (t : CodeState) (left : ℕ) : Type 0 where
@@ -130,13 +118,7 @@ module _ (f : Frame) (src dst₀ : List ℕ) (t₀ : CodeState) (n : ℕ) (dst :
         rest = refl;
         grows = omega arith;
         reads = le-refl (t .pos);
-        sound = record {
-          place = mid .sound .place;
-          within = omega (arith, mid .sound .within);
-          row = omega (arith, mid .sound .row);
-          foreground = mid .sound .foreground;
-          counted = omega (arith, mid .todo, mid .counted);
-        };
+        sound = sound-more 0 (t .orders + 1) false (mid .sound) (omega arith) (omega (arith, mid .todo, mid .counted));
       })
       (masks-done z))
 

@@ -4,12 +4,10 @@ use mathlib.Core.List.{List}
 use mathlib.Core.Bool.{Bool, true, false}
 use Prim.Native.Nat.{ℕ, _≤_, _<_, zero-le}
 use lib.Dec.{ltb}
-use lib.ListN.{length}
 use borrow.Author.Tests.{le-ltb, lt-ltb, ltb-false}
 use Rattle.rle.specs.declared.order.Frame.{Frame as CodeFrame}
 use Rattle.rle.specs.declared.order.State.{State as CodeState}
 use Rattle.picture.specs.Pixels.{pick}
-use Rattle.picture.specs.Sizes.{Frame}
 use Rattle.rle.specs.Decode.{endFirstRow}
 use Rattle.rle.specs.Contracts.{Sound, frameOf, stateOf, rowAbove, atPos, firstRowEnded}
 use Rattle.rle.proofs.Pixels.{length-pixelsOf}

@@ -3,7 +3,7 @@ use mathlib.Core.Path.{_≡_, refl, ap, sym, _∙_, subst}
 use mathlib.Core.List.{List}
 use mathlib.Core.Bool.{Bool, true, false}
 use Prim.Native.Nat.{ℕ, _+_, _*_, _-_, _≤_, _<_}
-use native.Mathlib.Nat.{le-refl, le-trans, mul-le-mul, mul-le-mul-right}
+use native.Mathlib.Nat.{le-refl, mul-le-mul, mul-le-mul-right}
 use native.Mathlib.Omega.{arith}
 use lib.ListN.{length, drop, length-drop, List·getD-eq-default}
 use lib.Seq.{drop-drop}
@@ -17,24 +17,16 @@ use Rattle.picture.specs.declared.outcome.RleError.the-variants.{BadOrderCode, 
 use Rattle.picture.specs.Pixels.{Pixel, firstPixel, pixelAt, OfDepth}
 use Rattle.rle.specs.Orders.{Kind, NoOrder, Row, kindOf, kindRow, rows, noRow, row}
 use Rattle.picture.specs.Sizes.{Frame}
-use Rattle.rle.specs.Decode.{Ink, solid, fgInk, bgInk, insertInk, maskInk, ditherInk, State, Step, room, tooLarge, tooShort, needBytes, paintOrder, completed, withPainted, withLeft, withForeground, fgRun, setForeground, setFgRun, colorRun, ditheredRun, colorImage, oneMask, fgBgImage, setFgBgImage, orderOf}
+use Rattle.rle.specs.Decode.{Ink, solid, fgInk, bgInk, insertInk, maskInk, ditherInk, State, Step, room, tooLarge, tooShort, needBytes, paintOrder, completed, withPainted, withLeft, withForeground, fgRun, setForeground, colorRun, ditheredRun, colorImage, oneMask, orderOf}
 use Rattle.rle.specs.Contracts.{Paintable, Painted, Framed, Sound, Did, frameOf, stateOf, inkOf, reach, rowAbove, fgMode, bgMode, fgOf, bgOf, withFg, atPos, advancedBy, completedOf, refusedOf, tooLargeOf}
 use Rattle.rle.proofs.Pixels.{length-pixelsOf}
 use Rattle.rle.proofs.Painting.{of-depth, painted-as}
 
--- ---- an order as another, from another state
+-- ---- an order as another
 
 pub did-as : {f : Frame} {src before after : List ℕ} {s : CodeState} {r : Stepped} {a b : State → Step}
     → a (stateOf f src before s) ≡ b (stateOf f src before s) → Did f src before after s r a → Did f src before after s r b
 did-as e d = record { is = d .is ∙ e; rest = d .rest; grows = d .grows; reads = d .reads; sound = d .sound }
-
--- the same from an earlier state, with as many pixels
-pub did-from : {f : Frame} {src before after : List ℕ} {s t : CodeState} {r : Stepped} {a b : State → Step} {p : ℕ} {q : Pixel} → t ≡ withFg s p q
-    → s .pos ≤ p → a (stateOf f src before (withFg s p q)) ≡ b (stateOf f src before s)
-    → Did f src before after t r a → Did f src before after s r b
-did-from {f} {src} {before} {after} {s} {t} {r} {a} {b} {p} {q} e o g d =
-    let h : Did f src before after (withFg s p q) r a = subst (λ (u : CodeState). Did f src before after u r a) e d in
-    record { is = h .is ∙ g; rest = h .rest; grows = h .grows; reads = le-trans o (h .reads); sound = h .sound }
 
 -- ---- painting
 
@@ -84,6 +76,18 @@ sound-at pos p sound h e =
       counted = sound .counted;
     }
 
+-- the state with n more pixels
+pub sound-more : {f : Frame} {size : ℕ} {s : CodeState} (n orders : ℕ) (insert : Bool) → Sound f size s → n ≤ f .total - s .pixels → orders ≤ s .pixels + n
+    → Sound f size (record { pos = s .pos; pixels = s .pixels + n; foreground = s .foreground; insert = insert; «first_row» = s .«first_row»; orders = orders })
+sound-more n orders insert sound h counted =
+    record {
+      place = sound .place;
+      within = omega (arith, sound .within);
+      row = omega (arith, sound .row);
+      foreground = sound .foreground;
+      counted = counted;
+    }
+
 module _ (f : Frame) (src before : List ℕ) (s : CodeState) (frame : Framed (length before) f) (sound : Sound f (length src) s) where
   room-is : room f (stateOf f src before s) ≡ f .total - s .pixels
   unfolding room
@@ -100,13 +104,7 @@ module _ (f : Frame) (src before : List ℕ) (s : CodeState) (frame : Framed (le
         rest = p .rest;
         grows = omega arith;
         reads = le-refl (s .pos);
-        sound = record {
-          place = sound .place;
-          within = omega (arith, sound .within);
-          row = omega (arith, sound .row);
-          foreground = sound .foreground;
-          counted = omega (arith, sound .counted);
-        };
+        sound = sound-more n (s .orders + 1) i sound h (omega (arith, sound .counted));
       }
 
   -- a mask's pixels are painted
@@ -120,13 +118,7 @@ module _ (f : Frame) (src before : List ℕ) (s : CodeState) (frame : Framed (le
         rest = p .rest;
         grows = omega arith;
         reads = le-refl (s .pos);
-        sound = record {
-          place = sound .place;
-          within = omega (arith, sound .within);
-          row = omega (arith, sound .row);
-          foreground = sound .foreground;
-          counted = omega (arith, sound .counted);
-        };
+        sound = sound-more n (s .orders) (s .insert) sound h (omega (arith, sound .counted));
       }
 
 pub fg-ink : (s : CodeState) → inkOf (fgOf s) ≡ fgInk (s .«first_row») (s .foreground)
@@ -191,34 +183,46 @@ module _ (f : Frame) (src before : List ℕ) (s : CodeState) (sound : Sound f (l
   unfolding needBytes
   found k go h = rw (length-drop, le-leb k (length src - s .pos) h)
 
-  pub set-fg-run-is : (n : ℕ) {p : Pixel} → f .bytes ≤ length src - s .pos → p ≡ firstPixel (f .bytes) (drop (s .pos) src)
-      → fgRun f n (stateOf f src before (withFg s (s .pos + f .bytes) p)) ≡ setFgRun f n (stateOf f src before s)
-  unfolding setFgRun setForeground withLeft withForeground
-  set-fg-run-is n h e = rw (e, ← drop-drop (f .bytes) (s .pos) src) (found (f .bytes) _ h)
+  -- the order goes on from k bytes later, with the foreground p
+  module _ {after : List ℕ} {r : Stepped} {t : CodeState} (k : ℕ) {p : Pixel} (there : k ≤ length src - s .pos) (moved : t ≡ withFg s (s .pos + k) p) where
+    later : (go order : State → Step) → go (stateOf f src before (withFg s (s .pos + k) p)) ≡ order (stateOf f src before s)
+        → Did f src before after t r go → Did f src before after s r order
+    later go order e d =
+        let h : Did f src before after (withFg s (s .pos + k) p) r go = subst (λ (u : CodeState). Did f src before after u r go) moved d in
+        record { is = h .is ∙ e; rest = h .rest; grows = h .grows; reads = omega (arith, h .reads); sound = h .sound }
 
-  pub set-fgbg-is : (n : ℕ) {p : Pixel} → f .bytes ≤ length src - s .pos → p ≡ firstPixel (f .bytes) (drop (s .pos) src)
-      → fgBgImage f n (stateOf f src before (withFg s (s .pos + f .bytes) p)) ≡ setFgBgImage f n (stateOf f src before s)
-  unfolding setFgBgImage setForeground withLeft withForeground
-  set-fgbg-is n h e = rw (e, ← drop-drop (f .bytes) (s .pos) src) (found (f .bytes) _ h)
+  module _ {after : List ℕ} {r : Stepped} {t : CodeState} where
+    -- a set-foreground order, after its foreground
+    pub did-set : (go : State → Step) {p : Pixel} → f .bytes ≤ length src - s .pos → t ≡ withFg s (s .pos + f .bytes) p
+        → p ≡ firstPixel (f .bytes) (drop (s .pos) src) → Did f src before after t r go
+        → Did f src before after s r (λ S. needBytes (f .bytes) S (go (setForeground f S)))
+    unfolding setForeground withLeft withForeground
+    did-set go h moved e =
+        later (f .bytes) h moved go _ (rw (e, ← drop-drop (f .bytes) (s .pos) src) (found (f .bytes) _ h))
 
-  pub color-run-is : (n : ℕ) {ink : Ink} {p : Pixel} → f .bytes ≤ length src - s .pos → p ≡ firstPixel (f .bytes) (drop (s .pos) src)
-      → ink ≡ solid p
-      → paintOrder f false (λ _. ink) n (stateOf f src before (atPos s (s .pos + f .bytes))) ≡ colorRun f n (stateOf f src before s)
-  unfolding colorRun withLeft
-  color-run-is n h e i = rw (i, e, ← drop-drop (f .bytes) (s .pos) src) (found (f .bytes) _ h)
+    pub did-color-run : (n : ℕ) {ink : Ink} {p : Pixel} → f .bytes ≤ length src - s .pos → t ≡ atPos s (s .pos + f .bytes)
+        → p ≡ firstPixel (f .bytes) (drop (s .pos) src) → ink ≡ solid p
+        → Did f src before after t r (paintOrder f false (λ _. ink) n) → Did f src before after s r (colorRun f n)
+    unfolding colorRun withLeft
+    did-color-run n h moved e i =
+        later (f .bytes) h moved (paintOrder f false (λ _. _) n) (colorRun f n)
+        (rw (i, e, ← drop-drop (f .bytes) (s .pos) src) (found (f .bytes) _ h))
 
-  pub dithered-is : (n : ℕ) {a b : Pixel} → 2 * f .bytes ≤ length src - s .pos → a ≡ firstPixel (f .bytes) (drop (s .pos) src)
-      → b ≡ firstPixel (f .bytes) (drop (s .pos + f .bytes) src)
-      → paintOrder f false (ditherInk a b) (n * 2) (stateOf f src before (atPos s (s .pos + 2 * f .bytes))) ≡ ditheredRun f n (stateOf f src before s)
-  unfolding ditheredRun withLeft
-  dithered-is n h p q =
-      rw (p, q, ← drop-drop (f .bytes) (s .pos) src, ← drop-drop (2 * f .bytes) (s .pos) src) (found (2 * f .bytes) _ h)
+    pub did-dithered : (n : ℕ) {a b : Pixel} → 2 * f .bytes ≤ length src - s .pos → t ≡ atPos s (s .pos + 2 * f .bytes)
+        → a ≡ firstPixel (f .bytes) (drop (s .pos) src) → b ≡ firstPixel (f .bytes) (drop (s .pos + f .bytes) src)
+        → Did f src before after t r (paintOrder f false (ditherInk a b) (n * 2)) → Did f src before after s r (ditheredRun f n)
+    unfolding ditheredRun withLeft
+    did-dithered n {a} {b} h moved p q =
+        later (2 * f .bytes) h moved (paintOrder f false (ditherInk a b) (n * 2)) (ditheredRun f n)
+        (rw (p, q, ← drop-drop (f .bytes) (s .pos) src, ← drop-drop (2 * f .bytes) (s .pos) src) (found (2 * f .bytes) _ h))
 
-  pub image-is : (n : ℕ) → n * f .bytes ≤ length src - s .pos
-      → paintOrder f false (λ j. solid (pixelAt (f .bytes) (drop (s .pos) src) j)) n (stateOf f src before (atPos s (s .pos + n * f .bytes)))
-      ≡ colorImage f n (stateOf f src before s)
-  unfolding colorImage withLeft
-  image-is n h = rw (← drop-drop (n * f .bytes) (s .pos) src) (found (n * f .bytes) _ h)
+    pub did-image : (n : ℕ) → n * f .bytes ≤ length src - s .pos → t ≡ atPos s (s .pos + n * f .bytes)
+        → Did f src before after t r (paintOrder f false (λ j. solid (pixelAt (f .bytes) (drop (s .pos) src) j)) n)
+        → Did f src before after s r (colorImage f n)
+    unfolding colorImage withLeft
+    did-image n h moved =
+        later (n * f .bytes) h moved (paintOrder f false (λ j. solid (pixelAt (f .bytes) (drop (s .pos) src) j)) n) (colorImage f n)
+        (rw (← drop-drop (n * f .bytes) (s .pos) src) (found (n * f .bytes) _ h))
 
 -- ---- a header that is no order
 

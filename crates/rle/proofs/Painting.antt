@@ -9,7 +9,7 @@ use native.Mathlib.Omega.{arith}
 use lib.Dec.{ltb, eqb}
 use borrow.Author.Tests.{ne-eqb}
 use lib.Bits.{bitXor}
-use lib.ListN.{length, getD, drop}
+use lib.ListN.{length, getD, drop, length-append}
 use lib.Seq.{drop-drop}
 use Rattle.rle.specs.declared.paint.Mode.{Mode}
 use Rattle.rle.specs.declared.paint.Mode.the-variants.{Solid, Above, AboveXor}
@@ -111,6 +111,20 @@ painted-more D w k n ink xs ys zs p o =
           ∙ ap (λ (l : List ℕ). drop D l) (p .rest)
           ∙ drop-drop D ((k + n) * D) xs);
     }
+
+-- what is kept from a place on is kept from each later place on
+pub rest-later : (D p q : ℕ) (xs ys : List ℕ) → p ≤ q → drop (p * D) xs ≡ drop (p * D) ys → drop (q * D) xs ≡ drop (q * D) ys
+rest-later D p q xs ys h e =
+    let m : q * D ≡ p * D + (q * D - p * D) = omega (arith, mul-le-mul-right {m = p} {n = q} D h) in
+    rw m (sym (drop-drop (q * D - p * D) (p * D) xs) ∙ ap (λ (l : List ℕ). drop (q * D - p * D) l) e ∙ drop-drop (q * D - p * D) (p * D) ys)
+
+pub length-paint : (w : ℕ) (ink : ℕ → Ink) (n : ℕ) (ps : List Pixel) → length (paint w ink n ps) ≡ length ps + n
+unfolding paint
+length-paint w ink zero ps = sym (add-zero (length ps))
+length-paint w ink (suc n) ps =
+    length-append (paint w ink n ps) (color w (paint w ink n ps) (ink n) ∷ [])
+    ∙ ap (λ (m : ℕ). m + 1) (length-paint w ink n ps)
+    ∙ omega arith
 
 pub painted-at : {D w k i n : ℕ} {ink : ℕ → Ink} {xs ys : List ℕ} → i ≡ n → Painted D w ink k i xs ys → Painted D w ink k n xs ys
 painted-at {D} {w} {k} {i} {n} {ink} {xs} {ys} e p = subst (λ (m : ℕ). Painted D w ink k m xs ys) e p

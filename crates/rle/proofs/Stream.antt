@@ -19,7 +19,7 @@ use Rattle.picture.specs.Sizes.{Frame}
 use Rattle.rle.specs.Decode.{State, Step, orderOf, orderFrom, withLeft, step, Run, ended, atEnd, thenRun, run, decode, start}
 use Rattle.rle.specs.Contracts.{pixelsOf, Sound, Did, Reads, Ran, Framed, frameOf, stateOf, stepOf, outcomeOf, lengthIs, lengthFits, firstRowEnded, atPos, refusedOf, startOf, runOf}
 use Rattle.rle.proofs.FirstRow.{mark-is, sound-marked}
-use Rattle.rle.proofs.FgBg.{rest-later}
+use Rattle.rle.proofs.Painting.{rest-later}
 
 -- ---- one order
 

@@ -6,7 +6,6 @@ use mathlib.Core.Bool.{Bool, true, false}
 use Prim.Native.Nat.{ℕ, zero, suc, _+_, _-_, _*_, _≤_}
 use lib.Dec.{ltb}
 use lib.ListN.{length, take, drop}
-use Rattle.picture.specs.declared.depth.Depth.{Depth as CodeDepth}
 use Rattle.rle.specs.declared.code.RunLength.{RunLength as CodeLength}
 use Rattle.rle.specs.declared.code.RunLength.the-variants.{Of, NotRead}
 use Rattle.rle.specs.declared.paint.Mode.{Mode}
@@ -21,8 +20,8 @@ use Rattle.picture.specs.declared.outcome.RleError.{RleError}
 use Rattle.picture.specs.declared.outcome.RleError.the-variants.{InvalidImageSize}
 use Rattle.picture.specs.declared.outcome.Outcome.the-variants.{Err}
 use Rattle.rle.specs.declared.report.Report.{Report}
-use Rattle.picture.specs.Pixels.{Pixel, OfDepth, pick, firstPixel, pixelAt}
-use Rattle.picture.specs.Sizes.{Refusal, refusal, Frame, Depth}
+use Rattle.picture.specs.Pixels.{Pixel, OfDepth, pick, pixelAt}
+use Rattle.picture.specs.Sizes.{Refusal, refusal, Frame}
 use Rattle.rle.specs.Orders.{RunLength, runLength, noLength}
 use Rattle.rle.specs.Decode.{Ink, solid, above, aboveXor, color, paint, State, Step, done, refused, Run, ended, stopped, decode}
 use Rattle.picture.specs.Outcomes.{refusalOf, refusalIn, formatIn}

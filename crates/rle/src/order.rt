@@ -471,13 +471,7 @@ pub(crate) fn end_first_row(f: Frame, s: State) -> State
 }
 
 // One order, of a stream with a byte left.
-pub(crate) fn order(
-    src: &[u8],
-    dst: &mut [u8],
-    kinds: &[u8; 256],
-    f: Frame,
-    s: State,
-) -> Stepped
+pub(crate) fn order(src: &[u8], dst: &mut [u8], kinds: &[u8; 256], f: Frame, s: State) -> Stepped
     requires { ⌜ Framed (length (now dst)) (frameOf f) ⌝ }
     requires { ⌜ Sound (frameOf f) (length (now src)) s ⌝ }
     requires { ⌜ s .pos < length (now src) ⌝ }

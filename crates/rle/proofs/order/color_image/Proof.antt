@@ -2,7 +2,7 @@
 use native.Mathlib.Nat.{mul-le-mul}
 use mathlib.Core.Path.{refl}
 use Rattle.rle.specs.Decode.{colorImage}
-use Rattle.rle.proofs.Orders.{missing, sound-at, image-is, did-from}
+use Rattle.rle.proofs.Orders.{missing, sound-at, did-image}
 use native.Mathlib.Omega.{arith}
 use borrow.Author.Needs.{needs}
 use Rattle.rle.proofs.order.color_image.Statement.{statement}
@@ -47,9 +47,7 @@ same-length c = search needs
 returns-2 : tie.Need-returns-2
 returns-2 c =
     let s = c .before .before .before .before .before .before .before .before .before in
-    did-from (c .before .before .before .moved .ensures) (search needs)
-    (image-is _ (s .args .src .now) (s .args .dst .now) (s .args .s) (s .pre .1 .0) (s .args .n) (search needs))
-    (c .before .before .image-pixels .ensures)
+    did-image _ (s .args .src .now) (s .args .dst .now) (s .args .s) (s .pre .1 .0) (s .args .n) (search needs) (c .before .before .before .moved .ensures) (c .before .before .image-pixels .ensures)
 
 pub color-image-spec : {M : Type 1} → statement M
 color-image-spec =

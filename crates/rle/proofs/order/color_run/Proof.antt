@@ -4,7 +4,7 @@ use lib.ListN.{drop}
 use Rattle.rle.specs.declared.paint.Ink.{Ink as CodeInk}
 use Rattle.rle.specs.Decode.{colorRun}
 use Rattle.rle.specs.Contracts.{inkOf}
-use Rattle.rle.proofs.Orders.{missing, sound-at, read-of-depth, color-run-is, did-from}
+use Rattle.rle.proofs.Orders.{missing, sound-at, read-of-depth, did-color-run}
 use borrow.Author.Needs.{needs}
 use Rattle.rle.proofs.order.color_run.Statement.{statement}
 use Rattle.rle.proofs.order.color_run.Tie as tie
@@ -50,10 +50,8 @@ same-length c = search needs
 returns-2 : tie.Need-returns-2
 returns-2 c =
     let s = c .before .before .before .before .before .before .before .before .before .before in
-    did-from (c .before .before .before .before .moved .ensures) (search needs)
-    (color-run-is _ (s .args .src .now) (s .args .dst .now) (s .args .s) (s .pre .1 .0) (s .args .n) (search needs) (c .before .before .before .before .before .before .read-pixel .ensures)
-    (ap (λ (x : CodeInk). inkOf x) (c .before .before .before .solid .ensures)))
-    (c .before .before .uniform-run .ensures)
+    did-color-run _ (s .args .src .now) (s .args .dst .now) (s .args .s) (s .pre .1 .0) (s .args .n) (search needs) (c .before .before .before .before .moved .ensures) (c .before .before .before .before .before .before .read-pixel .ensures)
+    (ap (λ (x : CodeInk). inkOf x) (c .before .before .before .solid .ensures)) (c .before .before .uniform-run .ensures)
 
 pub color-run-spec : {M : Type 1} → statement M
 color-run-spec =

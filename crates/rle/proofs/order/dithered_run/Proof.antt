@@ -3,7 +3,7 @@ use Prim.Native.Nat.{_+_}
 use mathlib.Core.Path.{refl}
 use lib.ListN.{drop}
 use Rattle.rle.specs.Decode.{ditheredRun}
-use Rattle.rle.proofs.Orders.{missing, sound-at, read-of-depth, dithered-is, did-from}
+use Rattle.rle.proofs.Orders.{missing, sound-at, read-of-depth, did-dithered}
 use borrow.Author.Needs.{needs}
 use Rattle.rle.proofs.order.dithered_run.Statement.{statement}
 use Rattle.rle.proofs.order.dithered_run.Tie as tie
@@ -69,8 +69,7 @@ same-length c = search needs
 returns-2 : tie.Need-returns-2
 returns-2 c =
     let s = c .before .before .before .before .before .before .before .before .before .before in
-    did-from (c .before .before .before .moved .ensures) (search needs)
-    (dithered-is _ (s .args .src .now) (s .args .dst .now) (s .args .s) (s .pre .1 .0) (s .args .n) (search needs) (c .before .before .before .before .before .before .read-pixel .ensures) (c .before .before .before .before .before .read-pixel2 .ensures))
+    did-dithered _ (s .args .src .now) (s .args .dst .now) (s .args .s) (s .pre .1 .0) (s .args .n) (search needs) (c .before .before .before .moved .ensures) (c .before .before .before .before .before .before .read-pixel .ensures) (c .before .before .before .before .before .read-pixel2 .ensures)
     (c .before .before .dithered-pixels .ensures)
 
 pub dithered-run-spec : {M : Type 1} → statement M

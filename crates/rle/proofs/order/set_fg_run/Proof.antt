@@ -1,8 +1,8 @@
 -- `set_fg_run` meets its contract: the new foreground is missing, or is read and the run painted with it. Assumes nothing.
 use mathlib.Core.Path.{refl}
 use lib.ListN.{drop}
-use Rattle.rle.specs.Decode.{setFgRun}
-use Rattle.rle.proofs.Orders.{missing, sound-at, read-of-depth, set-fg-run-is, did-from}
+use Rattle.rle.specs.Decode.{fgRun, setFgRun}
+use Rattle.rle.proofs.Orders.{missing, sound-at, read-of-depth, did-set}
 use borrow.Author.Needs.{needs}
 use Rattle.rle.proofs.order.set_fg_run.Statement.{statement}
 use Rattle.rle.proofs.order.set_fg_run.Tie as tie
@@ -44,10 +44,10 @@ same-length : tie.Need-same-length
 same-length c = search needs
 
 returns-2 : tie.Need-returns-2
+unfolding setFgRun
 returns-2 c =
     let s = c .before .before .before .before .before .before .before .before .before in
-    did-from (c .before .before .before .with-foreground .ensures) (search needs)
-    (set-fg-run-is _ (s .args .src .now) (s .args .dst .now) (s .args .s) (s .pre .1 .0) (s .args .n) (search needs) (c .before .before .before .before .before .read-pixel .ensures))
+    did-set _ (s .args .src .now) (s .args .dst .now) (s .args .s) (s .pre .1 .0) (fgRun _ (s .args .n)) (search needs) (c .before .before .before .with-foreground .ensures) (c .before .before .before .before .before .read-pixel .ensures)
     (c .before .before .fg-run .ensures)
 
 pub set-fg-run-spec : {M : Type 1} → statement M

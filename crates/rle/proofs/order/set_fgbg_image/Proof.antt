@@ -1,8 +1,8 @@
 -- `set_fgbg_image` meets its contract: the new foreground is missing, or is read and the image painted with it. Assumes nothing.
 use mathlib.Core.Path.{refl}
 use lib.ListN.{drop}
-use Rattle.rle.specs.Decode.{setFgBgImage}
-use Rattle.rle.proofs.Orders.{missing, sound-at, read-of-depth, set-fgbg-is, did-from}
+use Rattle.rle.specs.Decode.{fgBgImage, setFgBgImage}
+use Rattle.rle.proofs.Orders.{missing, sound-at, read-of-depth, did-set}
 use borrow.Author.Needs.{needs}
 use Rattle.rle.proofs.order.set_fgbg_image.Statement.{statement}
 use Rattle.rle.proofs.order.set_fgbg_image.Tie as tie
@@ -44,10 +44,10 @@ same-length : tie.Need-same-length
 same-length c = search needs
 
 returns-2 : tie.Need-returns-2
+unfolding setFgBgImage
 returns-2 c =
     let s = c .before .before .before .before .before .before .before .before .before in
-    did-from (c .before .before .before .with-foreground .ensures) (search needs)
-    (set-fgbg-is _ (s .args .src .now) (s .args .dst .now) (s .args .s) (s .pre .1 .0) (s .args .n) (search needs) (c .before .before .before .before .before .read-pixel .ensures))
+    did-set _ (s .args .src .now) (s .args .dst .now) (s .args .s) (s .pre .1 .0) (fgBgImage _ (s .args .n)) (search needs) (c .before .before .before .with-foreground .ensures) (c .before .before .before .before .before .read-pixel .ensures)
     (c .before .before .fgbg-image .ensures)
 
 pub set-fgbg-image-spec : {M : Type 1} → statement M
