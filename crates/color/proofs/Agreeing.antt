@@ -10,9 +10,9 @@ use native.Mathlib.Omega.{arith}
 use lib.Dec.{leb}
 use lib.ListN.{length}
 use borrow.Author.Tests.{leb-true}
-use Rattle.picture.specs.Sizes.{checked, depthOf, Size, bytes, refused, sizeOf}
+use Rattle.picture.specs.Sizes.{checked, depthOf, Size, bytes, refused, sizeOf, hasSpace}
 use Rattle.color.specs.Colors.{Triple, paletteFits}
-use Rattle.color.specs.SamePicture.{Picture, both, valid, hasSpace, colorAt, sameTriple, sameColors}
+use Rattle.color.specs.SamePicture.{Picture, both, valid, colorAt, sameTriple, sameColors}
 use Rattle.color.specs.Contracts.{Expandable}
 use Rattle.color.proofs.Triples.{never, all-true}
 use Rattle.picture.proofs.Sizes.{sized}

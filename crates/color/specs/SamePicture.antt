@@ -7,7 +7,7 @@ use Prim.Native.Nat.{ℕ, zero, suc, _*_, _<_}
 use lib.Dec.{eqb, leb}
 use lib.ListN.{length, getD}
 use Rattle.picture.specs.Pixels.{pick, pixelAt}
-use Rattle.picture.specs.Sizes.{depthOf, checked, Size, bytes, refused, sizeOf}
+use Rattle.picture.specs.Sizes.{depthOf, checked, sizeOf, hasSpace}
 use Rattle.color.specs.declared.same.Shape.{Shape}
 use Rattle.color.specs.Colors.{Triple, colorOf, paletteFits}
 
@@ -29,11 +29,7 @@ pictureOf xs s = picture xs (s .pixels) (s .width) (s .height) (s .bpp)
 abbrev pub both : Bool → Bool → Bool
 both a b = pick a b false
 
--- depth and sizes are good (refusals 1 to 3), and the slice has space for the whole picture
-unfoldable pub hasSpace : ℕ → Size → Bool
-hasSpace given (refused r) = false
-hasSpace given (bytes n) = leb n given
-
+-- depth and sizes are good, the slice has space for the whole picture, the count is not above its pixels, and the palette has its entries
 unfoldable pub valid : List ℕ → Picture → Bool
 valid palette p =
     both (hasSpace (length (p .slice)) (sizeOf (checked (p .bpp) (p .width) (p .height))))

@@ -1,5 +1,6 @@
 -- What can be said of a picture before its stream: the depth table, the sizes, and refusals 1 to 4.
 use mathlib.Core.List.{List, [], _∷_}
+use mathlib.Core.Bool.{Bool, false}
 use Prim.Native.Nat.{ℕ, _*_}
 use lib.Dec.{ltb, leb, eqb}
 use lib.ListN.{getD}
@@ -81,3 +82,8 @@ pub data Size : Type 0 where
 unfoldable pub sizeOf : Checked → Size
 sizeOf (away r) = refused r
 sizeOf (fit f k) = bytes (f .total * f .bytes)
+
+-- a slice of `given` bytes has space for the whole picture
+unfoldable pub hasSpace : ℕ → Size → Bool
+hasSpace given (refused r) = false
+hasSpace given (bytes n) = leb n given

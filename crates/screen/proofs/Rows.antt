@@ -7,8 +7,7 @@ use native.Mathlib.Omega.{arith}
 use lib.Dec.{leb, ltb}
 use borrow.Author.Tests.{leb-true, ltb-true}
 use Rattle.picture.specs.Pixels.{pick}
-use Rattle.picture.specs.Sizes.{checked, depthOf, Size, bytes, refused, sizeOf}
-use Rattle.color.specs.SamePicture.{hasSpace}
+use Rattle.picture.specs.Sizes.{checked, depthOf, Size, bytes, refused, sizeOf, hasSpace}
 use Rattle.picture.proofs.Sizes.{Sized, sized, few}
 use Rattle.picture.proofs.Depths.{depth-good}
 use Rattle.screen.specs.Rows.{RowPart, rowPart, noPart, partIn, partToShow}

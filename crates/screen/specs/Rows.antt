@@ -6,8 +6,7 @@ use Prim.Native.Nat.{ℕ, _+_, _*_}
 use lib.Dec.{ltb}
 use lib.ListN.{length, take, drop}
 use Rattle.picture.specs.Pixels.{pick}
-use Rattle.picture.specs.Sizes.{checked, depthOf, Size, sizeOf}
-use Rattle.color.specs.SamePicture.{hasSpace}
+use Rattle.picture.specs.Sizes.{checked, depthOf, Size, sizeOf, hasSpace}
 use Rattle.screen.specs.declared.Part.{Part}
 
 -- a part of the new picture or of the one on screen, in bytes

@@ -3,7 +3,7 @@
 use borrow.Author.Needs.{needs}
 use borrow.Author.Tests.{le-leb, lt-leb, lt-ltb, le-ltb}
 use native.Mathlib.Omega.{arith}
-use Rattle.color.specs.SamePicture.{hasSpace}
+use Rattle.picture.specs.Sizes.{hasSpace}
 use Rattle.picture.proofs.Sizes.{Sized, sized}
 use Rattle.screen.specs.Rows.{partToShow, partIn}
 use Rattle.screen.proofs.Rows.{row-small, row-ends, pixels-small}

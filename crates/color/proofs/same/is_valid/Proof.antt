@@ -3,7 +3,8 @@ use borrow.Author.Needs.{needs}
 use borrow.Author.Tests.{ne-eqb, le-leb, lt-leb}
 use native.Mathlib.Omega.{arith}
 use Rattle.color.specs.Colors.{paletteFits}
-use Rattle.color.specs.SamePicture.{valid, hasSpace}
+use Rattle.color.specs.SamePicture.{valid}
+use Rattle.picture.specs.Sizes.{hasSpace}
 use Rattle.picture.proofs.Sizes.{sized, few}
 use Rattle.color.proofs.same.is_valid.Statement.{statement}
 use Rattle.color.proofs.same.is_valid.Tie as tie
