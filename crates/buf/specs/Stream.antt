@@ -14,6 +14,7 @@ use Rattle.buf.specs.declared.Read.the-variants.{Value, NotEnoughBytes}
 unfoldable pub remaining : List ℕ → ℕ → ℕ
 remaining s pos = length s - pos
 
+-- whether no byte is left at a place
 unfoldable pub atEnd : List ℕ → ℕ → Bool
 atEnd s pos = eqb (remaining s pos) 0
 
@@ -25,9 +26,11 @@ pick false a b = b
 unfoldable pub answer : ℕ → ℕ → ℕ → Read
 answer expected left value = pick (leb expected left) (Value value) (NotEnoughBytes expected left)
 
+-- the byte at a place
 unfoldable pub u8At : List ℕ → ℕ → Read
 u8At s pos = answer 1 (remaining s pos) (getD s pos 0)
 
+-- the number in two bytes at a place
 unfoldable pub u16At : List ℕ → ℕ → Read
 u16At s pos = answer 2 (remaining s pos) (getD s pos 0 + getD s (pos + 1) 0 * 256)
 

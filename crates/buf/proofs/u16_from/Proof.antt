@@ -1,4 +1,4 @@
--- `buf::u16_from` meets its contract: a walk of its MIR, by hand. The reader that `at_place` returns is held in a local and passed to `read_u16`. All that the
+-- `buf::u16_from` meets its contract: a walk of its MIR, by hand. The reader that `at_place` returns is held in a local and passed to `peek_u16`. All that the
 -- proof knows of the two is that each meets its contract. The machine value that `at_place` returns is stored and passed on as it is. In a local
 -- of a body MIR erases the lifetime of the reader's type, so the value is shown to have the type at `erased`: what it owns does not say the
 -- lifetime's name.
@@ -51,10 +51,10 @@ use Rattle.buf.proofs.at_place as make
 use Rattle.buf.proofs.at_place.Symbol as make-def
 use Rattle.buf.proofs.at_place.Symbol.{name as #buf·at-place}
 use Rattle.buf.proofs.at_place.Met as make-thm
-use Rattle.buf.proofs.read_u16 as read
-use Rattle.buf.proofs.read_u16.Symbol as read-def
-use Rattle.buf.proofs.read_u16.Symbol.{name as #buf·read-u16}
-use Rattle.buf.proofs.read_u16.Met as read-thm
+use Rattle.buf.proofs.peek_u16 as read
+use Rattle.buf.proofs.peek_u16.Symbol as read-def
+use Rattle.buf.proofs.peek_u16.Symbol.{name as #buf·peek-u16}
+use Rattle.buf.proofs.peek_u16.Met as read-thm
 use Rattle.buf.proofs.u16_from.Key.{name as #buf·u16-from}
 use Rattle.buf.proofs.u16_from as this
 use Rattle.buf.proofs.u16_from.Statement as stated
@@ -106,7 +106,7 @@ module _ {M : Type 1} (𝓤 : URA M) (H : Heap 𝓤) (A : Atoms 𝓤) (W : Given
   make-said : (r : Buf) → ent 𝓤 (ensured 𝓤 H A make.ended (make.clauses 𝓤 H A mem run) (κ, tt) (s, (n, tt)) tt r) (fact 𝓤 ((r .inner ≡ s) × (r .pos ≡ n)))
   make-said r = exE 𝓤 _ (λ ws. snd∗ 𝓤 (sem 𝓤 H A (lasts make.ended (κ, tt) (s, (n, tt)) ws)) (fact 𝓤 ((r .inner ≡ s) × (r .pos ≡ n))))
 
-  -- the call of `read_u16`, at the reader r with the machine value u
+  -- the call of `peek_u16`, at the reader r with the machine value u
   abbrev to-read : Buf → Val → Reads 𝓤 H A mem run .Ghost
   to-read r u = (((κ, tt), (q, tt), tt, (r, tt), (u ∷ [], tt)), tt)
 
@@ -122,7 +122,7 @@ module _ {M : Type 1} (𝓤 : URA M) (H : Heap 𝓤) (A : Atoms 𝓤) (W : Given
       suffices ! _ (ends-at 𝓤 H A this.ended stayed (this.clauses 𝓤 H A mem run) W (((κ, tt), (q, tt), tt, (s, (n, tt)), (v ∷ [], (vint w64 n ∷ [], tt))), tt) u t (tt, (tt, tt)) (tt, (tt, tt))) $ says ! e $
       move ! (1 ∷ []) $ frame ! $ nothing ! $ owned ! usize (Is usize) (uint-makes 𝓤 H A W w64) n _ (refl, ok) $ fjoin ! $ move ! (2 ∷ 0 ∷ []) $ fjoin ! $ frame ! $ done !
 
-  module _ (C : Calls 𝓤 H) (Λ : Loops 𝓤 H) (fm : FmC 𝓤 H (W .laws) C) (known-make : Triple 𝓤 (C #buf·at-place) (Make 𝓤 H A mem run)) (known-read : Triple 𝓤 (C #buf·read-u16) (Reads 𝓤 H A mem run)) where
+  module _ (C : Calls 𝓤 H) (Λ : Loops 𝓤 H) (fm : FmC 𝓤 H (W .laws) C) (known-make : Triple 𝓤 (C #buf·at-place) (Make 𝓤 H A mem run)) (known-read : Triple 𝓤 (C #buf·peek-u16) (Reads 𝓤 H A mem run)) where
     walk : Is (ShrSlice (named 0) κ u8) s (v ∷ []) → ent 𝓤 (onEntry 𝓤 H A this.signature (κ, tt) (q, tt) (s, (n, tt)) (v ∷ [], (vint w64 n ∷ [], tt))) (WpFn 𝓤 H C Λ code.function (v ∷ vint w64 n ∷ []) Post)
     walk p =
         qed W (raw (onEntry 𝓤 H A this.signature (κ, tt) (q, tt) (s, (n, tt)) (v ∷ [], (vint w64 n ∷ [], tt))) ∷ []) ∵ enter ! C Λ code.function (v ∷ vint w64 n ∷ []) _ $
@@ -145,13 +145,13 @@ module _ {M : Type 1} (𝓤 : URA M) (H : Heap 𝓤) (A : Atoms 𝓤) (W : Given
         by ! (exits t u′ (e′ ∙ (ap (λ (x : RefT (List ℕ)). u16At (now x) (r .pos)) (e .0) ∙ ap (u16At (now s)) (e .1))))))))))))))))
 
 module _ {M : Type 1} (𝓤 : URA M) (H : Heap 𝓤) (A : Atoms 𝓤) (W : Given 𝓤 H A) (mem : Memory → SProp 𝓤) (run : Routine → Fun 𝓤) where
-  walks : (C : Calls 𝓤 H) (Λ : Loops 𝓤 H) → FmC 𝓤 H (W .laws) C → Triple 𝓤 (C #buf·at-place) (Make 𝓤 H A mem run) → Triple 𝓤 (C #buf·read-u16) (Reads 𝓤 H A mem run)
+  walks : (C : Calls 𝓤 H) (Λ : Loops 𝓤 H) → FmC 𝓤 H (W .laws) C → Triple 𝓤 (C #buf·at-place) (Make 𝓤 H A mem run) → Triple 𝓤 (C #buf·peek-u16) (Reads 𝓤 H A mem run)
       → Walks 𝓤 H A this.ended stayed (WpFn 𝓤 H C Λ code.function) (this.clauses 𝓤 H A mem run)
   walks C Λ fm known-make known-read = walked 𝓤 H A this.ended stayed (this.clauses 𝓤 H A mem run) (WpFn 𝓤 H C Λ code.function) (λ κs. (slice-vals, (uint-vals w64, tt))) (λ κs. (shr-slice-tells (named 0) (κs .0) u8, (uint-tells w64, tt)))
       (λ κs qs bounds a g are. via 𝓤 _ (fst∗ 𝓤 _ (emp 𝓤)) (walk 𝓤 H A W mem run (κs .0) (qs .0) (a .0) (a .1 .0) (are .1 .0 .1) C Λ fm known-make known-read (are .0)))
 
 meets : {M : Type 1} (𝓤 : URA M) (H : Heap 𝓤) (A : Atoms 𝓤) (W : Given 𝓤 H A) (mem : Memory → SProp 𝓤) (run : Routine → Fun 𝓤) (𝓣 : Tables 𝓤 H)
-    → Triple 𝓤 (𝓣 .C #buf·at-place) (Make 𝓤 H A mem run) → Triple 𝓤 (𝓣 .C #buf·read-u16) (Reads 𝓤 H A mem run)
+    → Triple 𝓤 (𝓣 .C #buf·at-place) (Make 𝓤 H A mem run) → Triple 𝓤 (𝓣 .C #buf·peek-u16) (Reads 𝓤 H A mem run)
     → Meets 𝓤 H A this.signature (WpFn 𝓤 H (𝓣 .C) (𝓣 .Λ) code.function) (this.spec 𝓤 H A mem run)
 meets 𝓤 H A W mem run 𝓣 known-make known-read = walk-meets 𝓤 H A this.ended stayed W (goes-none-slice 𝓤 H A W 1 (0 ∷ []) tt (plain (λ _. u8)) yes, (goes-none 𝓤 H A W 1 (λ _. usize) yes (λ κs x f. refl), tt)) (this.clauses 𝓤 H A mem run) (WpFn 𝓤 H (𝓣 .C) (𝓣 .Λ) code.function) (WpFn-mono 𝓤 H (W .laws) 𝓣 code.function)
     (walks 𝓤 H A W mem run (𝓣 .C) (𝓣 .Λ) (fmOf 𝓤 H (W .laws) 𝓣) known-make known-read)
@@ -163,4 +163,4 @@ u16-from-spec 𝓤 H 𝓜 𝓖 𝓡 =
     (tables 𝓤 H 𝓜 𝓡 code.env .C) (tables 𝓤 H 𝓜 𝓡 code.env .Λ) #buf·u16-from code.function (code.unfolded 𝓤 H 𝓜 𝓡)
     (meets 𝓤 H (𝓖 .A) (givenOf 𝓤 H 𝓜 𝓖) (𝓜 .mem) (𝓡 .run) (tablesOf 𝓤 H 𝓜 (tables 𝓤 H 𝓜 𝓡 code.env))
     (cited 𝓤 H (Make 𝓤 H (𝓖 .A) (𝓜 .mem) (𝓡 .run)) 𝓜 𝓡 code.env #buf·at-place make-def.routine code.calls-buf·at-place (make-thm.met 𝓤 H 𝓜 𝓖 𝓡))
-    (cited 𝓤 H (Reads 𝓤 H (𝓖 .A) (𝓜 .mem) (𝓡 .run)) 𝓜 𝓡 code.env #buf·read-u16 read-def.routine code.calls-buf·read-u16 (read-thm.met 𝓤 H 𝓜 𝓖 𝓡)))
+    (cited 𝓤 H (Reads 𝓤 H (𝓖 .A) (𝓜 .mem) (𝓡 .run)) 𝓜 𝓡 code.env #buf·peek-u16 read-def.routine code.calls-buf·peek-u16 (read-thm.met 𝓤 H 𝓜 𝓖 𝓡)))
