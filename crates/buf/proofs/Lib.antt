@@ -1,1 +1,6 @@
+pub mod Advance
 pub mod Answers
+pub mod Contracts
+pub mod From
+pub mod Peek
+pub mod Reader
