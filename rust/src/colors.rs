@@ -1,6 +1,7 @@
 //! Colors of decoded pictures, and the row to show.
 
 use crate::ffi_colors::{self, NO_ENTRY};
+use crate::report::number;
 use crate::Refusal;
 
 /// Returns the color of one pixel: blue, green, red.
@@ -9,22 +10,22 @@ use crate::Refusal;
 /// are ignored. At 24 bits per pixel (`bpp`) they are the color. At 15 `bpp` a pixel has five bits
 /// for each channel, at 16 `bpp` five for blue, six for green and five for red, blue lowest: a
 /// channel c of five bits becomes 8 × c, one of six bits 4 × c. At 8 `bpp` the pixel is an index
-/// into `palette`, 256 entries of blue, green and red.
+/// into `palette`, 256 entries of blue, green and red; other depths do not look at it.
 ///
-/// Refused are [`Refusal::InvalidBpp`], and at 8 `bpp` alone a palette of fewer than 768 bytes, as
-/// [`Refusal::BufferTooShort`].
+/// ```
+/// // The top five of 15 bits are red.
+/// assert_eq!(nulambiro::expand([0x00, 0x7C, 0x00], 15, &[]), Ok([0, 0, 248]));
+/// ```
+///
+/// # Errors
+///
+/// [`Refusal::InvalidBpp`], and at 8 `bpp` alone [`Refusal::BufferTooShort`] for a palette of fewer
+/// than 768 bytes.
 pub fn expand(pixel: [u8; 3], bpp: usize, palette: &[u8]) -> Result<[u8; 3], Refusal> {
-    let report = ffi_colors::expand(pixel, bpp, palette);
-    match report[0] {
-        0 => Ok([byte(report[3]), byte(report[4]), byte(report[5])]),
-        1 => Err(Refusal::InvalidBpp {
-            bpp: number(report[1]),
-        }),
-        4 => Err(Refusal::BufferTooShort {
-            needed: number(report[1]),
-            given: number(report[2]),
-        }),
-        other => unreachable!("expansion has no refusal {other}"),
+    let [refusal, first, second, blue, green, red, ..] = ffi_colors::expand(pixel, bpp, palette);
+    match refusal {
+        0 => Ok([blue, green, red].map(|value| u8::try_from(value).expect("a channel is a byte"))),
+        _ => Err(Refusal::from_numbers(refusal, first, second)),
     }
 }
 
@@ -32,6 +33,14 @@ pub fn expand(pixel: [u8; 3], bpp: usize, palette: &[u8]) -> Result<[u8; 3], Ref
 ///
 /// `None` exactly if no entry does, or the palette has fewer than 768 bytes. Where several entries
 /// equal the color, the index is one of theirs.
+///
+/// ```
+/// let mut palette = [0; 768];
+/// palette[3 * 7..][..3].copy_from_slice(&[10, 20, 30]);
+/// assert_eq!(nulambiro::palette_look(&palette, [10, 20, 30]), Some(7));
+/// assert_eq!(nulambiro::palette_look(&palette, [30, 20, 10]), None);
+/// ```
+#[must_use]
 pub fn palette_look(palette: &[u8], color: [u8; 3]) -> Option<u8> {
     match ffi_colors::palette_look(palette, color) {
         NO_ENTRY => None,
@@ -60,6 +69,16 @@ pub struct Picture<'a> {
 /// all painted pixels agree. A picture is valid if its depth and sizes are good, its slice has
 /// space for the whole picture, at most width × height pixels are painted, and at 8 `bpp` the
 /// palette has at least 768 bytes.
+///
+/// ```
+/// use nulambiro::{same_picture, Picture};
+///
+/// let at_15 = Picture { bytes: &[0x1F, 0x00], pixels: 1, width: 1, height: 1, bpp: 15 };
+/// let at_24 = Picture { bytes: &[248, 0, 0], bpp: 24, ..at_15 };
+/// assert!(same_picture(&at_15, &at_24, &[]));
+/// assert!(!same_picture(&at_15, &Picture { pixels: 0, ..at_24 }, &[]));
+/// ```
+#[must_use]
 pub fn same_picture(a: &Picture, b: &Picture, palette: &[u8]) -> bool {
     ffi_colors::same_picture(a, b, palette)
 }
@@ -67,8 +86,21 @@ pub fn same_picture(a: &Picture, b: &Picture, palette: &[u8]) -> bool {
 /// Returns the row of a picture that is to be shown: row `row` of the new picture, if it is wholly
 /// painted, else the same part of the picture on screen.
 ///
-/// The row is wholly painted if (`row` + 1) × `width` is at most `pixels`. It is empty if the depth
-/// or the sizes are bad, `row` is not below `height`, or either slice is shorter than the picture.
+/// The row is wholly painted if (`row` + 1) × `width` is at most `pixels`, the count that
+/// [`decompress_into`](crate::decompress_into) reported; `pixels` may be any number. The part is
+/// empty, and one of the new picture, if the depth or the sizes are bad, `row` is not below
+/// `height`, or either slice is shorter than the picture.
+///
+/// ```
+/// use nulambiro::{decompress_into, row_to_show};
+///
+/// let (screen, mut new) = ([0x55; 8], [0x00; 8]);
+/// // Six of eight pixels: the second row is not whole.
+/// let pixels = decompress_into(&[0x26], &mut new, 4, 2, 8).pixels;
+/// assert_eq!(row_to_show(&new, pixels, &screen, 8, 4, 2, 0), [0xFF; 4]);
+/// assert_eq!(row_to_show(&new, pixels, &screen, 8, 4, 2, 1), [0x55; 4]);
+/// ```
+#[must_use]
 pub fn row_to_show<'a>(
     new: &'a [u8],
     pixels: usize,
@@ -78,16 +110,8 @@ pub fn row_to_show<'a>(
     height: usize,
     row: usize,
 ) -> &'a [u8] {
-    let part = ffi_colors::row_to_show(new.len(), pixels, screen.len(), bpp, width, height, row);
-    let from = if part[0] == 0 { new } else { screen };
-    let start = number(part[1]);
-    &from[start..start + number(part[2])]
-}
-
-fn byte(value: u64) -> u8 {
-    u8::try_from(value).expect("a channel is a byte")
-}
-
-fn number(value: u64) -> usize {
-    usize::try_from(value).expect("usize has 64 bits here")
+    let [on_screen, start, len, ..] =
+        ffi_colors::row_to_show(new.len(), pixels, screen.len(), bpp, width, height, row);
+    let picture = if on_screen == 0 { new } else { screen };
+    &picture[number(start)..][..number(len)]
 }

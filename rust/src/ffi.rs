@@ -3,16 +3,8 @@
 #[cfg(not(target_pointer_width = "64"))]
 compile_error!("libnulambiro.a is built for targets with 64-bit pointers");
 
-/// Places in the report.
-pub(crate) const FORMAT: usize = 0;
-pub(crate) const REFUSAL: usize = 1;
-pub(crate) const FIRST: usize = 2;
-pub(crate) const SECOND: usize = 3;
-pub(crate) const PIXELS: usize = 4;
-pub(crate) const ORDERS: usize = 5;
-
 extern "C" {
-    fn nulambiro_decompress(
+    pub(crate) fn nulambiro_decompress(
         src: *const u8,
         src_len: usize,
         dst: *mut u8,
@@ -24,7 +16,7 @@ extern "C" {
     );
 }
 
-/// One call of the library; returns its report.
+/// Returns the report: format, refusal, first, second, pixels, orders.
 pub(crate) fn decompress(
     src: &[u8],
     dst: &mut [u8],
@@ -52,7 +44,7 @@ pub(crate) fn decompress(
 
 #[cfg(test)]
 mod tests {
-    use super::{nulambiro_decompress, FORMAT, REFUSAL};
+    use super::nulambiro_decompress;
     use std::ptr;
 
     fn with_null_pointers(bpp: usize) -> [u64; 8] {
@@ -78,7 +70,7 @@ mod tests {
             let dst = target.as_mut_ptr();
             nulambiro_decompress(ptr::null(), 0, dst, 8, 4, 2, 8, &mut report);
         }
-        assert_eq!((report[FORMAT], report[REFUSAL]), (8, 0));
+        assert_eq!(report, [8, 0, 0, 0, 0, 0, 0, 0]);
         assert_eq!(target, [0x55; 8]);
     }
 }

@@ -1,5 +1,7 @@
 //! The C interface of the color functions, as `include/nulambiro.h` documents it.
 
+use crate::Picture;
+
 /// What `nulambiro_palette_look` returns if no entry equals the color.
 pub(crate) const NO_ENTRY: usize = 256;
 
@@ -73,7 +75,7 @@ pub(crate) fn palette_look(palette: &[u8], [blue, green, red]: [u8; 3]) -> usize
     unsafe { nulambiro_palette_look(palette.as_ptr(), palette.len(), blue, green, red) }
 }
 
-pub(crate) fn same_picture(a: &crate::Picture, b: &crate::Picture, palette: &[u8]) -> bool {
+pub(crate) fn same_picture(a: &Picture, b: &Picture, palette: &[u8]) -> bool {
     // SAFETY: the three slices are valid for their lengths, and are only read.
     let same = unsafe {
         nulambiro_same_picture(
@@ -96,8 +98,7 @@ pub(crate) fn same_picture(a: &crate::Picture, b: &crate::Picture, palette: &[u8
     same == 1
 }
 
-/// Returns the report: whether it is on screen, start and length. The numbers are those of
-/// `crate::row_to_show`.
+/// Returns the report: whether the part is on screen, its start and its length.
 pub(crate) fn row_to_show(
     new_len: usize,
     pixels: usize,
@@ -122,4 +123,41 @@ pub(crate) fn row_to_show(
         );
     }
     report
+}
+
+#[cfg(test)]
+mod tests {
+    use super::{nulambiro_expand, nulambiro_palette_look, nulambiro_same_picture, NO_ENTRY};
+    use std::ptr::null;
+
+    #[test]
+    fn null_palette_is_an_empty_palette() {
+        let mut report = [u64::MAX; 8];
+        // SAFETY: a null pointer is allowed with a length of 0; the report has its eight places.
+        unsafe { nulambiro_expand(1, 2, 3, 8, null(), 0, &mut report) };
+        assert_eq!(report, [4, 768, 0, 0, 0, 0, 0, 0]);
+        // SAFETY: as above.
+        unsafe { nulambiro_expand(1, 2, 3, 24, null(), 0, &mut report) };
+        assert_eq!(report, [0, 0, 0, 1, 2, 3, 0, 0]);
+        // SAFETY: a null pointer is allowed with a length of 0.
+        let index = unsafe { nulambiro_palette_look(null(), 0, 0, 0, 0) };
+        assert_eq!(index, NO_ENTRY);
+    }
+
+    #[test]
+    fn null_picture_has_no_space() {
+        let bytes = [1_u8, 2, 3];
+        // One pixel of 24 bits, of which none is painted.
+        let same = |a, a_len, b, b_len| {
+            // SAFETY: the pointers are null with a length of 0, or have the bytes' length.
+            unsafe {
+                nulambiro_same_picture(a, a_len, 0, 1, 1, 24, b, b_len, 0, 1, 1, 24, null(), 0)
+            }
+        };
+        let pixel = bytes.as_ptr();
+        assert_eq!(same(pixel, 3, pixel, 3), 1);
+        assert_eq!(same(pixel, 3, null(), 0), 0);
+        assert_eq!(same(null(), 0, pixel, 3), 0);
+        assert_eq!(same(null(), 0, null(), 0), 0);
+    }
 }

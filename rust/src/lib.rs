@@ -8,6 +8,9 @@
 //! - The module [`rle`] has the functions and types of IronRDP's module `ironrdp_graphics::rle`,
 //!   under the same names. Code that uses that module needs only another `use`.
 //!
+//! Between decoded pictures and a screen stand [`expand`], [`palette_look`], [`same_picture`] and
+//! [`row_to_show`].
+//!
 //! ```
 //! use nulambiro::{decompress_into, picture_len, RlePixelFormat};
 //!
@@ -53,11 +56,19 @@ pub fn decompress_into(
     height: usize,
     bpp: usize,
 ) -> Report {
-    Report::from_numbers(&ffi::decompress(src, dst, width, height, bpp))
+    Report::from_numbers(ffi::decompress(src, dst, width, height, bpp))
 }
 
-/// Returns how many bytes [`decompress_into`] needs for a picture of this size and depth, or the
-/// refusal that it would answer to them.
+/// Returns how many bytes [`decompress_into`] needs for a picture of this size and depth.
+///
+/// ```
+/// assert_eq!(nulambiro::picture_len(64, 64, 16), Ok(8192));
+/// ```
+///
+/// # Errors
+///
+/// The first of [`Refusal::InvalidBpp`], [`Refusal::EmptyImage`] and
+/// [`Refusal::DimensionsTooLarge`] that applies, as [`decompress_into`] would answer.
 pub fn picture_len(width: usize, height: usize, bpp: usize) -> Result<usize, Refusal> {
     match decompress_into(&[], &mut [], width, height, bpp).outcome {
         Err(Refusal::BufferTooShort { needed, .. }) => Ok(needed),

@@ -3,13 +3,13 @@
 use std::error::Error;
 use std::fmt;
 
-use crate::ffi::{FIRST, FORMAT, ORDERS, PIXELS, REFUSAL, SECOND};
 use crate::rle::{RleError, RlePixelFormat};
 
 /// What came out of one call of [`decompress_into`](crate::decompress_into).
 ///
 /// `orders` ≤ `pixels` always holds, and `pixels` is at most 26,214 times the stream's length.
 #[derive(Clone, Debug, PartialEq, Eq)]
+#[must_use = "a refused or short stream leaves old pixels in the target"]
 pub struct Report {
     /// The picture's format, or why decoding stopped.
     pub outcome: Result<RlePixelFormat, Refusal>,
@@ -19,10 +19,13 @@ pub struct Report {
     pub orders: usize,
 }
 
-/// Why a call stopped.
+/// Why a call was refused.
 ///
 /// The first four are tested in this order, before the stream is read; they change no byte of the
 /// target. The others come from the stream; pixels painted before them stay.
+///
+/// [`expand`](crate::expand) answers only [`InvalidBpp`](Self::InvalidBpp) and
+/// [`BufferTooShort`](Self::BufferTooShort).
 #[derive(Clone, Debug, PartialEq, Eq)]
 pub enum Refusal {
     /// The depth is none of 8, 15, 16 and 24 bits per pixel.
@@ -39,18 +42,19 @@ pub enum Refusal {
         /// The height given.
         height: usize,
     },
-    /// The target is shorter than the picture.
+    /// The target is shorter than the picture; in [`expand`](crate::expand), the palette is shorter
+    /// than 256 entries.
     BufferTooShort {
-        /// Bytes of the picture.
+        /// Bytes of the picture or of 256 entries.
         needed: usize,
-        /// Bytes of the target.
+        /// Bytes of the target or of the palette.
         given: usize,
     },
     /// A header byte is no order.
     BadOrderCode,
     /// The stream ends inside an order.
     NotEnoughBytes {
-        /// Bytes that the order goes on with.
+        /// Bytes that the order reads next.
         expected: usize,
         /// Bytes left in the stream.
         actual: usize,
@@ -59,7 +63,7 @@ pub enum Refusal {
     InvalidImageSize {
         /// Bytes left in the picture.
         maximum_additional: usize,
-        /// Bytes that the order would write.
+        /// Bytes that the order, or the next mask of its image, would write.
         required_additional: usize,
     },
     /// A run length of two bytes is 0.
@@ -67,6 +71,34 @@ pub enum Refusal {
 }
 
 impl Refusal {
+    /// Reads a refusal's number and the two numbers that belong to it.
+    pub(crate) fn from_numbers(refusal: u64, first: u64, second: u64) -> Self {
+        let (first, second) = (number(first), number(second));
+        match refusal {
+            1 => Self::InvalidBpp { bpp: first },
+            2 => Self::EmptyImage,
+            3 => Self::DimensionsTooLarge {
+                width: first,
+                height: second,
+            },
+            4 => Self::BufferTooShort {
+                needed: first,
+                given: second,
+            },
+            5 => Self::BadOrderCode,
+            6 => Self::NotEnoughBytes {
+                expected: first,
+                actual: second,
+            },
+            7 => Self::InvalidImageSize {
+                maximum_additional: first,
+                required_additional: second,
+            },
+            8 => Self::UnexpectedZeroLength,
+            other => unreachable!("the library has no refusal {other}"),
+        }
+    }
+
     /// Returns the error of the module [`rle`](crate::rle), or the bytes needed and given, for
     /// which it has none: it makes its targets as long as the picture.
     pub(crate) fn into_rle_error(self) -> Result<RleError, (usize, usize)> {
@@ -99,7 +131,7 @@ impl fmt::Display for Refusal {
             Ok(error) => error.fmt(f),
             Err((needed, given)) => write!(
                 f,
-                "the target is too short: the picture needs {needed} bytes, {given} were given"
+                "the buffer is too short: {needed} bytes are needed, {given} were given"
             ),
         }
     }
@@ -109,41 +141,17 @@ impl Error for Refusal {}
 
 impl Report {
     /// Reads the library's report; the places and numbers are those of `include/nulambiro.h`.
-    pub(crate) fn from_numbers(report: &[u64; 8]) -> Self {
+    pub(crate) fn from_numbers(report: [u64; 8]) -> Self {
+        let [bpp, refusal, first, second, pixels, orders, ..] = report;
         Self {
-            outcome: outcome(report),
-            pixels: number(report[PIXELS]),
-            orders: number(report[ORDERS]),
+            outcome: match refusal {
+                0 => Ok(format(bpp)),
+                _ => Err(Refusal::from_numbers(refusal, first, second)),
+            },
+            pixels: number(pixels),
+            orders: number(orders),
         }
     }
-}
-
-fn outcome(report: &[u64; 8]) -> Result<RlePixelFormat, Refusal> {
-    let (first, second) = (number(report[FIRST]), number(report[SECOND]));
-    Err(match report[REFUSAL] {
-        0 => return Ok(format(report[FORMAT])),
-        1 => Refusal::InvalidBpp { bpp: first },
-        2 => Refusal::EmptyImage,
-        3 => Refusal::DimensionsTooLarge {
-            width: first,
-            height: second,
-        },
-        4 => Refusal::BufferTooShort {
-            needed: first,
-            given: second,
-        },
-        5 => Refusal::BadOrderCode,
-        6 => Refusal::NotEnoughBytes {
-            expected: first,
-            actual: second,
-        },
-        7 => Refusal::InvalidImageSize {
-            maximum_additional: first,
-            required_additional: second,
-        },
-        8 => Refusal::UnexpectedZeroLength,
-        other => unreachable!("the library has no refusal {other}"),
-    })
 }
 
 fn format(bpp: u64) -> RlePixelFormat {
@@ -156,6 +164,7 @@ fn format(bpp: u64) -> RlePixelFormat {
     }
 }
 
-fn number(value: u64) -> usize {
+/// A number of a report.
+pub(crate) fn number(value: u64) -> usize {
     usize::try_from(value).expect("usize has 64 bits here")
 }

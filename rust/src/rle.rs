@@ -4,7 +4,16 @@
 //! place of `use ironrdp_graphics::rle`. As there, a target that is not of the picture's length is
 //! resized to it: a longer one is cut, a shorter one is filled up with zeros, and bytes that the
 //! stream does not paint keep what they held. A refusal of depth or sizes leaves the target as it
-//! is. Only the wording of the messages differs.
+//! is. The wording of the messages differs, and [`RleError`] is also an [`Error`].
+//!
+//! ```
+//! use nulambiro::rle::{decompress, RleError, RlePixelFormat};
+//!
+//! let mut picture = Vec::new();
+//! assert_eq!(decompress(&[0x24], &mut picture, 2, 2, 8), Ok(RlePixelFormat::Rgb8));
+//! assert_eq!(picture, [0xFF; 4]);
+//! assert_eq!(decompress(&[0xFF], &mut picture, 2, 2, 8), Err(RleError::BadOrderCode));
+//! ```
 
 use std::error::Error;
 use std::fmt;
@@ -25,6 +34,11 @@ pub enum RlePixelFormat {
 }
 
 /// Decodes `src` to `dst`, resized to a picture of `width` × `height` pixels of `bpp` bits.
+///
+/// # Errors
+///
+/// Depth and sizes are tested first, in the order of [`Refusal`]; they leave `dst` as it is. After
+/// an error in the stream `dst` is resized, and the pixels painted before it stay.
 pub fn decompress(
     src: &[u8],
     dst: &mut Vec<u8>,
@@ -97,7 +111,7 @@ pub enum RleError {
     BadOrderCode,
     /// The stream ends inside an order.
     NotEnoughBytes {
-        /// Bytes that the order goes on with.
+        /// Bytes that the order reads next.
         expected: usize,
         /// Bytes left in the stream.
         actual: usize,
@@ -106,7 +120,7 @@ pub enum RleError {
     InvalidImageSize {
         /// Bytes left in the picture.
         maximum_additional: usize,
-        /// Bytes that the order would write.
+        /// Bytes that the order, or the next mask of its image, would write.
         required_additional: usize,
     },
     /// The width or the height is 0.

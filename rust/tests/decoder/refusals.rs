@@ -1,6 +1,7 @@
 //! What is refused, with which numbers, and what stays painted.
 
 use crate::{decode, over_old, OLD};
+use nulambiro::rle::RleError;
 use nulambiro::{decompress_into, picture_len, Refusal, Report};
 
 /// A tile of 4 x 2 pixels at 8 bits per pixel is refused after these painted bytes and orders.
@@ -42,7 +43,7 @@ fn header_that_is_no_order_keeps_the_pixels_before_it() {
 }
 
 #[test]
-fn mask_image_keeps_the_masks_before_the_one_that_is_missing() {
+fn fgbg_image_keeps_its_pixels_before_a_missing_mask() {
     let painted = [0xFF, 0, 0, 0, 0, 0, 0, 0xFF];
     let missing = Refusal::NotEnoughBytes {
         expected: 1,
@@ -52,7 +53,7 @@ fn mask_image_keeps_the_masks_before_the_one_that_is_missing() {
 }
 
 #[test]
-fn mask_image_keeps_the_masks_before_the_one_that_does_not_fit() {
+fn fgbg_image_keeps_its_pixels_before_a_mask_that_does_not_fit() {
     let painted = [0xFF, 0, 0, 0, 0, 0, 0, 0xFF];
     let past = Refusal::InvalidImageSize {
         maximum_additional: 0,
@@ -177,11 +178,21 @@ fn short_target_is_refused_before_the_stream_is_read() {
 }
 
 #[test]
-fn messages_name_the_numbers() {
-    let message = Refusal::BufferTooShort {
-        needed: 8,
+fn message_names_the_bytes_that_are_missing() {
+    let short = Refusal::BufferTooShort {
+        needed: 768,
         given: 7,
-    }
-    .to_string();
-    assert!(message.contains('8') && message.contains('7'), "{message}");
+    };
+    assert_eq!(
+        short.to_string(),
+        "the buffer is too short: 768 bytes are needed, 7 were given"
+    );
+}
+
+#[test]
+fn message_is_that_of_the_module_rle() {
+    let (width, height) = (8193, 2);
+    let refusal = Refusal::DimensionsTooLarge { width, height };
+    let error = RleError::DimensionsTooLarge { width, height };
+    assert_eq!(refusal.to_string(), error.to_string());
 }

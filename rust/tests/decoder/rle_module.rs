@@ -1,6 +1,7 @@
 //! The module `rle` behaves as IronRDP's does.
 
 use nulambiro::rle::{self, RleError, RlePixelFormat};
+use std::error::Error;
 
 type Decode = fn(&[u8], &mut Vec<u8>, usize, usize) -> Result<RlePixelFormat, RleError>;
 
@@ -103,15 +104,47 @@ fn errors_carry_the_numbers_of_the_stream() {
 
 #[test]
 fn messages_say_what_was_wrong() {
-    let message = RleError::NotEnoughBytes {
-        expected: 2,
-        actual: 1,
+    let messages = [
+        (
+            RleError::InvalidBpp { bpp: 32 },
+            "32 bits per pixel are not supported, only 8, 15, 16 and 24",
+        ),
+        (
+            RleError::BadOrderCode,
+            "the stream has a header byte that is no order",
+        ),
+        (
+            RleError::NotEnoughBytes {
+                expected: 2,
+                actual: 1,
+            },
+            "the stream ends inside an order: 2 bytes expected, 1 left",
+        ),
+        (
+            RleError::InvalidImageSize {
+                maximum_additional: 8,
+                required_additional: 9,
+            },
+            "an order goes past the end of the picture: it writes 9 bytes, 8 are left",
+        ),
+        (
+            RleError::EmptyImage,
+            "the picture is empty: its width or height is 0",
+        ),
+        (
+            RleError::UnexpectedZeroLength,
+            "an order has a two-byte run length of 0",
+        ),
+        (
+            RleError::DimensionsTooLarge {
+                width: 8193,
+                height: 2,
+            },
+            "the picture is too large: 8193 x 2 pixels, but 8192 is the most each way",
+        ),
+    ];
+    for (error, message) in messages {
+        let error: Box<dyn Error> = Box::new(error);
+        assert_eq!(error.to_string(), message);
     }
-    .to_string();
-    assert_eq!(
-        message,
-        "the stream ends inside an order: 2 bytes expected, 1 left"
-    );
-    let boxed: Box<dyn std::error::Error> = Box::new(RleError::EmptyImage);
-    assert!(boxed.to_string().contains("width or height is 0"));
 }

@@ -35,7 +35,11 @@ fn longer_target_gives_no_more_room() {
 #[test]
 fn short_stream_keeps_the_old_picture() {
     let mut target: Vec<u8> = (1..=8).collect();
-    decompress_into(&[0x22], &mut target, 4, 2, 8);
+    let report = decompress_into(&[0x22], &mut target, 4, 2, 8);
+    assert_eq!(
+        (report.outcome, report.pixels),
+        (Ok(RlePixelFormat::Rgb8), 2)
+    );
     assert_eq!(target, [0xFF, 0xFF, 3, 4, 5, 6, 7, 8]);
 }
 
