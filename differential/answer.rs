@@ -1,6 +1,4 @@
-//! What each decoder answers, as the numbers of `include/nulambiro.h`.
-
-use crate::case::{Case, Picture};
+//! What a decoder answers, as the numbers of `include/nulambiro.h`.
 
 /// Format or refusal, and the refusal's two numbers.
 #[derive(Clone, Copy, Debug, PartialEq, Eq)]
@@ -11,16 +9,7 @@ pub struct Answer {
     pub second: u64,
 }
 
-/// The library's whole report.
-#[derive(Clone, Copy, Debug, PartialEq, Eq)]
-pub struct Report {
-    pub answer: Answer,
-    pub pixels: u64,
-    pub orders: u64,
-    pub unused: [u64; 2],
-}
-
-fn decoded(format: u64) -> Answer {
+pub fn decoded(format: u64) -> Answer {
     Answer {
         format,
         refusal: 0,
@@ -42,6 +31,7 @@ pub fn refused(refusal: u64, first: usize, second: usize) -> Answer {
 /// `rle` have types of the same names, so one list serves both.
 macro_rules! answer {
     ($($module:ident)::+, $result:expr) => {{
+        use crate::answer::{decoded, refused};
         use $($module)::+::{RleError, RlePixelFormat};
         match $result {
             Ok(RlePixelFormat::Rgb8) => decoded(8),
@@ -61,65 +51,4 @@ macro_rules! answer {
         }
     }};
 }
-
-/// The unchanged `rle.rs`.
-pub fn of_oracle(case: Case, target: &mut Vec<u8>) -> Answer {
-    let Picture { width, height, bpp } = case.picture;
-    answer!(
-        rle,
-        rle::decompress(case.stream, target, width, height, bpp)
-    )
-}
-
-/// The package's module with the interface of `rle.rs`.
-pub fn of_package(case: Case, target: &mut Vec<u8>) -> Answer {
-    let Picture { width, height, bpp } = case.picture;
-    let result = nulambiro::rle::decompress(case.stream, target, width, height, bpp);
-    answer!(nulambiro::rle, result)
-}
-
-extern "C" {
-    fn nulambiro_decompress(
-        src: *const u8,
-        src_len: usize,
-        dst: *mut u8,
-        dst_len: usize,
-        width: usize,
-        height: usize,
-        bpp: usize,
-        report: *mut u64,
-    );
-}
-
-/// The library by its C interface.
-///
-/// # Safety
-///
-/// `target` must be valid for writes of `len` bytes; they need not be initialized.
-pub unsafe fn of_library_raw(case: Case, target: *mut u8, len: usize) -> Report {
-    let Picture { width, height, bpp } = case.picture;
-    let (src, src_len) = (case.stream.as_ptr(), case.stream.len());
-    // On the heap and not initialized, so that valgrind sees a write past it and a place not written.
-    let mut report = Vec::<u64>::with_capacity(8);
-    unsafe {
-        let places = report.as_mut_ptr();
-        nulambiro_decompress(src, src_len, target, len, width, height, bpp, places);
-        report.set_len(8);
-    }
-    Report {
-        answer: Answer {
-            format: report[0],
-            refusal: report[1],
-            first: report[2],
-            second: report[3],
-        },
-        pixels: report[4],
-        orders: report[5],
-        unused: [report[6], report[7]],
-    }
-}
-
-pub fn of_library(case: Case, target: &mut [u8]) -> Report {
-    // SAFETY: the target is a slice.
-    unsafe { of_library_raw(case, target.as_mut_ptr(), target.len()) }
-}
+pub(crate) use answer;

@@ -1,134 +1,55 @@
-//! Writes the stored answers that the program `replay` compares with: for each stream of the files named, what the unchanged rle.rs
-//! answers. Usage: answers OUT FILE..., where a file has blocks of lines `width=`, `height=`, `bpp=`, `stream=` (hexadecimal), as a
-//! tile text has them; other lines are passed over.
+//! Writes the stored answers that the program `replay` compares with: for each stream of the files
+//! named, what the unchanged `rle.rs` answers.
 //!
-//! rle.rs counts neither pixels nor orders. Pixels: the bytes on which two targets with different old bytes agree. Orders: each
-//! completed order makes exactly one nonempty prefix of the stream that rle.rs accepts.
-use rle::{decompress, RleError, RlePixelFormat};
-use std::collections::BTreeSet;
+//! Arguments: the file to write, and the files to read. These have lines `width=`, `height=`,
+//! `bpp=` and `stream=` as a tile text has them; a line holds until the next of its kind, and each
+//! `stream=` makes a record. Other lines are passed over. The script `answers` builds and calls it.
 
-/// The most that `replay` holds: records in all, and one target.
+mod answer;
+mod case;
+mod oracle;
+
+use case::{Case, Picture};
+use std::collections::BTreeSet;
+use std::env;
+use std::fs;
+
+/// The most that `replay` holds: bytes of all records, and of one target.
 const MOST_RECORDS: usize = 262_144;
 const MOST_TARGET: usize = 65_536;
 /// Longer streams would take the room of many short ones.
 const MOST_STREAM: usize = 1_024;
 
 struct Tile {
-    width: usize,
-    height: usize,
-    bpp: usize,
+    picture: Picture,
     stream: Vec<u8>,
 }
 
-fn bytes_per_pixel(bpp: usize) -> usize {
-    match bpp {
-        8 => 1,
-        15 | 16 => 2,
-        24 => 3,
-        _ => 0,
-    }
-}
-
-impl Tile {
-    /// The picture's length, or 64 where there is no picture.
-    fn target_len(&self) -> usize {
-        let sides = 1..=8192;
-        match bytes_per_pixel(self.bpp) {
-            d if d > 0 && sides.contains(&self.width) && sides.contains(&self.height) => {
-                self.width * self.height * d
-            }
-            _ => 64,
-        }
-    }
-
-    fn decode(&self, stream: &[u8], preset: u8) -> (Result<RlePixelFormat, RleError>, Vec<u8>) {
-        let mut target = vec![preset; self.target_len()];
-        let answer = decompress(stream, &mut target, self.width, self.height, self.bpp);
-        (answer, target)
-    }
-
-    fn pixels(&self) -> usize {
-        let (_, a) = self.decode(&self.stream, 0x55);
-        let (_, b) = self.decode(&self.stream, 0xAA);
-        let painted = a.iter().zip(&b).filter(|(x, y)| x == y).count();
-        painted / bytes_per_pixel(self.bpp).max(1)
-    }
-
-    fn orders(&self) -> usize {
-        (1..=self.stream.len())
-            .filter(|n| self.decode(&self.stream[..*n], 0).0.is_ok())
-            .count()
-    }
-
-    fn record(&self) -> Vec<u8> {
-        let (answer, target) = self.decode(&self.stream, 0x55);
-        let [format, refusal, first, second] = numbers(&answer);
-        let mut out = Vec::new();
-        for n in [
-            self.width,
-            self.height,
-            self.bpp,
-            format,
-            refusal,
-            first,
-            second,
-            self.pixels(),
-            self.orders(),
-            checksum(&target),
-            self.stream.len(),
-        ] {
-            let n = u32::try_from(n).expect("a number of four bytes");
-            out.extend(n.to_le_bytes());
-        }
-        out.extend(&self.stream);
-        out
-    }
-}
-
-fn numbers(answer: &Result<RlePixelFormat, RleError>) -> [usize; 4] {
-    match answer {
-        Ok(RlePixelFormat::Rgb8) => [8, 0, 0, 0],
-        Ok(RlePixelFormat::Rgb15) => [15, 0, 0, 0],
-        Ok(RlePixelFormat::Rgb16) => [16, 0, 0, 0],
-        Ok(RlePixelFormat::Rgb24) => [24, 0, 0, 0],
-        Err(RleError::InvalidBpp { bpp }) => [0, 1, *bpp, 0],
-        Err(RleError::EmptyImage) => [0, 2, 0, 0],
-        Err(RleError::DimensionsTooLarge { width, height }) => [0, 3, *width, *height],
-        Err(RleError::BadOrderCode) => [0, 5, 0, 0],
-        Err(RleError::NotEnoughBytes { expected, actual }) => [0, 6, *expected, *actual],
-        Err(RleError::InvalidImageSize {
-            maximum_additional,
-            required_additional,
-        }) => [0, 7, *maximum_additional, *required_additional],
-        Err(RleError::UnexpectedZeroLength) => [0, 8, 0, 0],
-    }
-}
-
-fn checksum(target: &[u8]) -> usize {
-    target
-        .iter()
-        .fold(0, |sum, b| (sum * 16_777_619 + usize::from(*b) + 1) % 4_294_967_291)
-}
-
-fn unhex(s: &str) -> Option<Vec<u8>> {
-    (0..s.len() / 2)
-        .map(|i| u8::from_str_radix(&s[2 * i..2 * i + 2], 16).ok())
-        .collect()
-}
-
-fn tiles(text: &str) -> Vec<Tile> {
-    let (mut width, mut height, mut bpp) = (0, 0, 0);
+/// The tiles of a file; a line that cannot be read ends the program.
+fn tiles(file: &str) -> Vec<Tile> {
+    let text = fs::read_to_string(file).unwrap_or_else(|error| panic!("{file}: {error}"));
+    let mut picture = Picture {
+        width: 0,
+        height: 0,
+        bpp: 0,
+    };
     let mut found = Vec::new();
     for line in text.lines() {
-        let Some((key, value)) = line.split_once('=') else { continue };
+        let Some((key, value)) = line.split_once('=') else {
+            continue;
+        };
+        let number = || {
+            let number = value.parse();
+            number.unwrap_or_else(|_| panic!("{file}: no number in {line}"))
+        };
         match key {
-            "width" => width = value.parse().unwrap_or(usize::MAX),
-            "height" => height = value.parse().unwrap_or(usize::MAX),
-            "bpp" => bpp = value.parse().unwrap_or(usize::MAX),
+            "width" => picture.width = number(),
+            "height" => picture.height = number(),
+            "bpp" => picture.bpp = number(),
             "stream" => {
-                if let Some(stream) = unhex(value) {
-                    found.push(Tile { width, height, bpp, stream });
-                }
+                let stream = bytes_of_pairs(value);
+                let stream = stream.unwrap_or_else(|| panic!("{file}: no bytes in {line}"));
+                found.push(Tile { picture, stream });
             }
             _ => {}
         }
@@ -136,29 +57,71 @@ fn tiles(text: &str) -> Vec<Tile> {
     found
 }
 
-fn fits(t: &Tile) -> bool {
-    let small = |n: usize| u32::try_from(n).is_ok();
-    t.stream.len() <= MOST_STREAM
-        && small(t.width)
-        && small(t.height)
-        && small(t.bpp)
-        && t.target_len() <= MOST_TARGET
+fn bytes_of_pairs(digits: &str) -> Option<Vec<u8>> {
+    let pair = |at| u8::from_str_radix(digits.get(at..at + 2)?, 16).ok();
+    (0..digits.len()).step_by(2).map(pair).collect()
+}
+
+fn fits(tile: &Tile) -> bool {
+    let Picture { width, height, bpp } = tile.picture;
+    tile.stream.len() <= MOST_STREAM
+        && tile.picture.target_len() <= MOST_TARGET
+        && [width, height, bpp]
+            .map(u32::try_from)
+            .iter()
+            .all(Result::is_ok)
+}
+
+/// A record, as the source of `replay` describes it.
+fn record(Tile { picture, stream }: &Tile) -> Vec<u8> {
+    let case = Case {
+        stream,
+        picture: *picture,
+    };
+    let mut targets = oracle::OLD.map(|old| vec![old; picture.target_len()]);
+    let [answer, _] = targets
+        .each_mut()
+        .map(|target| oracle::decode(case, target));
+    let numbers = [
+        picture.width as u64,
+        picture.height as u64,
+        picture.bpp as u64,
+        answer.format,
+        answer.refusal,
+        answer.first,
+        answer.second,
+        oracle::pixels(case, &targets) as u64,
+        oracle::orders(case, &mut targets[1]) as u64,
+        checksum(&targets[0]),
+        stream.len() as u64,
+    ];
+    let four_bytes = |number| {
+        u32::try_from(number)
+            .expect("a number of four bytes")
+            .to_le_bytes()
+    };
+    let mut record: Vec<u8> = numbers.into_iter().flat_map(four_bytes).collect();
+    record.extend(stream);
+    record
+}
+
+fn checksum(target: &[u8]) -> u64 {
+    let add = |sum, byte: &u8| (sum * 16_777_619 + u64::from(*byte) + 1) % 4_294_967_291;
+    target.iter().fold(0, add)
 }
 
 fn main() {
-    let mut args = std::env::args().skip(1);
-    let out = args.next().expect("the file to write");
+    let mut arguments = env::args().skip(1);
+    let out = arguments.next().expect("usage: answers OUT FILE...");
     let mut records = Vec::new();
     let mut seen = BTreeSet::new();
-    for file in args {
-        let text = std::fs::read_to_string(&file).unwrap_or_else(|e| panic!("{file}: {e}"));
-        for tile in tiles(&text).into_iter().filter(fits) {
-            let record = tile.record();
-            if records.len() + record.len() <= MOST_RECORDS && seen.insert(record.clone()) {
-                records.extend(record);
-            }
+    for tile in arguments.flat_map(|file| tiles(&file)).filter(fits) {
+        let record = record(&tile);
+        if records.len() + record.len() <= MOST_RECORDS && seen.insert(record.clone()) {
+            records.extend(record);
         }
     }
-    std::fs::write(&out, &records).unwrap_or_else(|e| panic!("{out}: {e}"));
+    fs::write(&out, &records).unwrap_or_else(|error| panic!("{out}: {error}"));
+    // What `replay` prints where all answers are those stored.
     println!("{} streams, 0 differ", seen.len());
 }

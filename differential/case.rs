@@ -2,9 +2,6 @@
 
 use std::fmt;
 
-/// The depths that are decoded.
-pub const DEPTHS: [usize; 4] = [8, 15, 16, 24];
-
 const MAX_SIDE: usize = 8192;
 
 #[derive(Clone, Copy, PartialEq, Eq)]
@@ -30,6 +27,11 @@ impl Picture {
         let good = |side: usize| (1..=MAX_SIDE).contains(&side);
         let pixel = self.bytes_per_pixel()?;
         (good(self.width) && good(self.height)).then(|| self.width * self.height * pixel)
+    }
+
+    /// A target's length: the picture's, or some length where depth or sizes are refused.
+    pub fn target_len(self) -> usize {
+        self.len().unwrap_or(64)
     }
 }
 

@@ -1,7 +1,9 @@
 //! Holds the library to the oracle, and to its own contract where the oracle has no answer.
 
-use crate::answer::{of_library, of_oracle, of_package, refused, Answer, Report};
+use crate::answer::{refused, Answer};
 use crate::case::Case;
+use crate::library::{self, Report};
+use crate::oracle::{self, OLD};
 
 /// What is looked at beside the answer and the bytes of a target of the picture's length.
 #[derive(Clone, Copy, PartialEq, Eq)]
@@ -16,9 +18,6 @@ pub enum Effort {
 
 const GUARD: usize = 32;
 const GUARD_BYTE: u8 = 0xC3;
-const PRESETS: [u8; 2] = [0x55, 0xAA];
-/// Length of the targets where depth or sizes are refused.
-const ANY_LEN: usize = 64;
 
 /// A target between guard bytes.
 #[derive(Default)]
@@ -27,10 +26,10 @@ struct Lent {
 }
 
 impl Lent {
-    fn preset(&mut self, len: usize, value: u8) -> &mut [u8] {
+    fn preset(&mut self, len: usize, old: u8) -> &mut [u8] {
         self.bytes.clear();
         self.bytes.resize(GUARD, GUARD_BYTE);
-        self.bytes.resize(GUARD + len, value);
+        self.bytes.resize(GUARD + len, old);
         self.bytes.resize(GUARD + len + GUARD, GUARD_BYTE);
         &mut self.bytes[GUARD..GUARD + len]
     }
@@ -84,27 +83,29 @@ impl Checker {
         }
         let other = self.exact(case, 1)?;
         same("reports over different old bytes", report, other)?;
-        self.painted(case, report)?;
+        let pixels = oracle::pixels(case, &self.oracle) as u64;
+        same("pixels painted", pixels, report.pixels)?;
         for more in [1, 61] {
             self.longer(case, report, more)?;
         }
         self.shorter(case, report)?;
         if effort == Effort::Orders {
-            same("orders completed", self.orders(case), report.orders)?;
+            let orders = oracle::orders(case, &mut self.oracle[0]) as u64;
+            same("orders completed", orders, report.orders)?;
         }
         Ok(())
     }
 
     /// A target of the picture's length: the answer and every byte are the oracle's.
-    fn exact(&mut self, case: Case, preset: usize) -> Result<Report, String> {
-        let len = case.picture.len().unwrap_or(ANY_LEN);
-        let expected = &mut self.oracle[preset];
+    fn exact(&mut self, case: Case, which: usize) -> Result<Report, String> {
+        let len = case.picture.target_len();
+        let expected = &mut self.oracle[which];
         expected.clear();
-        expected.resize(len, PRESETS[preset]);
-        let answer = of_oracle(case, expected);
-        let report = of_library(case, self.lent.preset(len, PRESETS[preset]));
+        expected.resize(len, OLD[which]);
+        let answer = oracle::decode(case, expected);
+        let report = library::decode(case, self.lent.preset(len, OLD[which]));
         same("answer", answer, report.answer)?;
-        same_bytes("target", &self.oracle[preset], self.lent.target())?;
+        same_bytes("target", &self.oracle[which], self.lent.target())?;
         self.promised(case, report)?;
         Ok(report)
     }
@@ -118,25 +119,17 @@ impl Checker {
         same("guard bytes untouched", true, self.lent.is_guarded())
     }
 
-    /// The bytes on which the oracle's two targets agree are the painted ones.
-    fn painted(&self, case: Case, report: Report) -> Checked {
-        let [first, second] = &self.oracle;
-        let painted = first.iter().zip(second).take_while(|(a, b)| a == b).count();
-        let pixel = case.picture.bytes_per_pixel().unwrap_or(1) as u64;
-        same("painted bytes", painted as u64, report.pixels * pixel)
-    }
-
     /// A longer target gets the same report and painted bytes, and keeps all others.
     fn longer(&mut self, case: Case, report: Report, more: usize) -> Checked {
         let len = self.oracle[0].len();
-        let found = of_library(case, self.lent.preset(len + more, PRESETS[0]));
+        let found = library::decode(case, self.lent.preset(len + more, OLD[0]));
         same("report with a longer target", report, found)?;
         let (picture, rest) = self.lent.target().split_at(len);
         same_bytes("longer target", &self.oracle[0], picture)?;
         same(
             "rest of a longer target untouched",
             true,
-            rest.iter().all(|byte| *byte == PRESETS[0]),
+            rest.iter().all(|byte| *byte == OLD[0]),
         )?;
         self.promised(case, found)
     }
@@ -165,25 +158,16 @@ impl Checker {
 
     /// The library gives this answer with counts of 0 and changes no byte of the target.
     fn untouched(&mut self, case: Case, answer: Answer, given: usize) -> Checked {
-        let report = of_library(case, self.lent.preset(given, PRESETS[1]));
+        let report = library::decode(case, self.lent.preset(given, OLD[1]));
         same("answer before the stream is read", answer, report.answer)?;
         same(
             "counts before the stream is read",
             (0, 0),
             (report.pixels, report.orders),
         )?;
-        let kept = self.lent.target().iter().all(|byte| *byte == PRESETS[1]);
+        let kept = self.lent.target().iter().all(|byte| *byte == OLD[1]);
         same("target untouched", true, kept)?;
         self.promised(case, report)
-    }
-
-    /// Each completed order makes exactly one nonempty prefix of the stream that is decoded.
-    fn orders(&mut self, case: Case) -> u64 {
-        let decoded = |end: &usize| {
-            let stream = &case.stream[..*end];
-            of_oracle(Case { stream, ..case }, &mut self.oracle[0]).refusal == 0
-        };
-        (1..=case.stream.len()).filter(decoded).count() as u64
     }
 
     /// The package's module and `rle.rs` leave the same vector, whatever its length was.
@@ -191,12 +175,12 @@ impl Checker {
         let [expected, found] = &mut self.oracle;
         for target in [&mut *expected, &mut *found] {
             target.clear();
-            target.resize(old_len, PRESETS[0]);
+            target.resize(old_len, OLD[0]);
         }
         same(
             "answer of the package",
-            of_oracle(case, expected),
-            of_package(case, found),
+            oracle::decode(case, expected),
+            library::decode_by_package(case, found),
         )?;
         same_bytes("vector of the package", expected, found)
     }

@@ -1,10 +1,11 @@
 //! The groups of streams, and how many of each a mode takes.
 
-use crate::case::{Case, Picture, DEPTHS};
+use crate::case::{Case, Picture};
 use crate::check::{Checker, Effort};
 use crate::heap;
+use crate::random::Random;
 use crate::shrink::Failure;
-use crate::streams::{bytes, damage, every_form, orders, picture, Random};
+use crate::streams::{bytes, damage, every_form, orders, picture, DEPTHS};
 use std::ops::RangeInclusive;
 use std::process::exit;
 

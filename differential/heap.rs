@@ -2,11 +2,13 @@
 //! byte read or written outside of it is found. Targets are not initialized first: comparing a
 //! painted byte that depends on an old one is then an error too.
 
-use crate::answer::{of_library_raw, of_oracle, refused, Report};
+use crate::answer::refused;
 use crate::case::Case;
+use crate::library::{decode_in_new_block, Report};
+use crate::oracle;
 
 /// What the oracle's target holds where nothing is painted.
-const OLD: u8 = 0x55;
+const OLD: u8 = oracle::OLD[0];
 
 pub fn check(case: Case) -> Result<(), String> {
     let stream: Box<[u8]> = case.stream.into();
@@ -15,9 +17,9 @@ pub fn check(case: Case) -> Result<(), String> {
         ..case
     };
     let Some(len) = case.picture.len() else {
-        let answer = of_oracle(case, &mut Vec::new());
+        let answer = oracle::decode(case, &mut Vec::new());
         return [0, 1, 64].into_iter().try_for_each(|given| {
-            let (report, _) = decode(case, given);
+            let (report, _) = decode_in_new_block(case, given);
             expect(
                 report.answer == answer && report.pixels == 0,
                 case,
@@ -27,36 +29,19 @@ pub fn check(case: Case) -> Result<(), String> {
         });
     };
     let mut picture = vec![OLD; len];
-    let answer = of_oracle(case, &mut picture);
+    let answer = oracle::decode(case, &mut picture);
     for given in [len, len + 1, len + 61] {
-        let (report, painted) = decode(case, given);
+        let (report, painted) = decode_in_new_block(case, given);
         let (begin, rest) = picture.split_at(painted.len());
         let good = begin == painted && rest.iter().all(|byte| *byte == OLD);
         expect(good && report.answer == answer, case, given, report)?;
     }
     for given in [0, len / 2, len - 1] {
-        let (report, painted) = decode(case, given);
+        let (report, painted) = decode_in_new_block(case, given);
         let good = report.answer == refused(4, len, given) && painted.is_empty();
         expect(good, case, given, report)?;
     }
     Ok(())
-}
-
-/// Decodes into a fresh block of `given` bytes; returns the report and the painted bytes.
-fn decode(case: Case, given: usize) -> (Report, Vec<u8>) {
-    let mut target = Vec::<u8>::with_capacity(given);
-    // SAFETY: the vector has this capacity, and the library has written the painted bytes.
-    let report = unsafe {
-        let report = of_library_raw(case, target.as_mut_ptr(), given);
-        let painted = report.pixels as usize * case.picture.bytes_per_pixel().unwrap_or(0);
-        assert!(
-            painted <= given,
-            "{painted} bytes painted in a target of {given}"
-        );
-        target.set_len(painted);
-        report
-    };
-    (report, target)
 }
 
 fn expect(good: bool, case: Case, given: usize, report: Report) -> Result<(), String> {

@@ -1,12 +1,22 @@
 //! Runs the library beside the unchanged `rle.rs` and stops at the first difference.
 //!
 //! Arguments: short, long or valgrind, and a seed. The script `run` builds and calls it.
+#![deny(unsafe_code)]
 
 mod answer;
 mod case;
 mod check;
+// Of the package's C interface only the declaration is needed here.
+#[allow(dead_code, unsafe_code)]
+#[path = "../rust/src/ffi.rs"]
+mod ffi;
 mod groups;
 mod heap;
+#[allow(unsafe_code)]
+mod library;
+mod oracle;
+#[path = "../rust/tests/common/random.rs"]
+mod random;
 mod shrink;
 mod streams;
 

@@ -1,43 +1,10 @@
 //! Streams by chance: orders of every form, with lengths near the places where something ends.
 
-use crate::case::{Picture, DEPTHS};
+use crate::case::Picture;
+use crate::random::Random;
 
-/// A generator of numbers (xorshift64*), the same for the same seed.
-pub struct Random(u64);
-
-impl Random {
-    pub fn new(seed: u64) -> Self {
-        // Zero is the one state that never changes.
-        Self(seed.wrapping_mul(0x9E37_79B9_7F4A_7C15).max(1))
-    }
-
-    fn next(&mut self) -> u64 {
-        self.0 ^= self.0 >> 12;
-        self.0 ^= self.0 << 25;
-        self.0 ^= self.0 >> 27;
-        self.0.wrapping_mul(0x2545_F491_4F6C_DD1D) >> 16
-    }
-
-    pub fn below(&mut self, limit: usize) -> usize {
-        (self.next() % limit as u64) as usize
-    }
-
-    pub fn range(&mut self, least: usize, most: usize) -> usize {
-        least + self.below(most.max(least) - least + 1)
-    }
-
-    pub fn one_in(&mut self, times: usize) -> bool {
-        self.below(times) == 0
-    }
-
-    pub fn byte(&mut self) -> u8 {
-        self.next() as u8
-    }
-
-    pub fn pick<T: Copy>(&mut self, from: &[T]) -> T {
-        from[self.below(from.len())]
-    }
-}
+/// The depths that are decoded.
+pub const DEPTHS: [usize; 4] = [8, 15, 16, 24];
 
 /// What an order has after its length.
 #[derive(Clone, Copy, PartialEq, Eq)]
@@ -201,10 +168,8 @@ impl<'a> Writer<'a> {
             Tail::Nothing => {}
             Tail::Pixels => self.color(length),
             Tail::Masks => {
-                for _ in 0..length.div_ceil(8) {
-                    let mask = self.random.byte();
-                    self.stream.push(mask);
-                }
+                let masks = self.random.bytes(length.div_ceil(8));
+                self.stream.extend(masks);
             }
         }
     }
@@ -325,6 +290,8 @@ pub fn damage(random: &mut Random, stream: &mut Vec<u8>) {
     }
 }
 
+/// Bytes that need not be orders.
 pub fn bytes(random: &mut Random) -> Vec<u8> {
-    (0..random.range(3, 24)).map(|_| random.byte()).collect()
+    let count = random.range(3, 24);
+    random.bytes(count)
 }

@@ -1,6 +1,7 @@
 //! Expansion of one pixel.
 
-use crate::{color, Random};
+use crate::color;
+use crate::random::Random;
 use nulambiro::{expand, Refusal};
 
 #[test]
@@ -42,7 +43,7 @@ fn three_bytes_are_copied() {
 
 #[test]
 fn one_byte_is_an_index_into_the_palette() {
-    let palette = Random(8).bytes(768 + 5);
+    let palette = Random::new(8).bytes(768 + 5);
     for index in 0..=u8::MAX {
         let pixel = [index, !index, 0x77];
         assert_eq!(expand(pixel, 8, &palette), Ok(color(&pixel, 8, &palette)));

@@ -2,35 +2,13 @@
 
 mod expansion;
 mod palettes;
+#[path = "../common/random.rs"]
+mod random;
 mod rows;
 mod same;
 
 /// Depths with their bytes per pixel.
 const DEPTHS: [(usize, usize); 4] = [(8, 1), (15, 2), (16, 2), (24, 3)];
-
-/// Numbers by chance (xorshift64*), the same in every run.
-struct Random(u64);
-
-impl Random {
-    fn next(&mut self) -> u64 {
-        self.0 ^= self.0 >> 12;
-        self.0 ^= self.0 << 25;
-        self.0 ^= self.0 >> 27;
-        self.0.wrapping_mul(0x2545_F491_4F6C_DD1D)
-    }
-
-    fn below(&mut self, n: usize) -> usize {
-        ((self.next() >> 33) as usize) % n
-    }
-
-    fn byte(&mut self) -> u8 {
-        (self.next() >> 32) as u8
-    }
-
-    fn bytes(&mut self, n: usize) -> Vec<u8> {
-        (0..n).map(|_| self.byte()).collect()
-    }
-}
 
 /// The rule of expansion: bits out of the pixel's number, and zeros below them.
 fn color(pixel: &[u8], bpp: usize, palette: &[u8]) -> [u8; 3] {

@@ -1,6 +1,6 @@
 //! Palette look.
 
-use crate::Random;
+use crate::random::Random;
 use nulambiro::palette_look;
 
 /// The entries that equal the color.
@@ -12,7 +12,7 @@ fn matches(palette: &[u8], color: [u8; 3]) -> Vec<u8> {
 
 #[test]
 fn every_entry_is_found() {
-    let palette = Random(1).bytes(768);
+    let palette = Random::new(1).bytes(768);
     for entry in palette.chunks(3) {
         let color = [entry[0], entry[1], entry[2]];
         let found = palette_look(&palette, color).expect("an entry equals the color");
@@ -21,8 +21,8 @@ fn every_entry_is_found() {
 }
 
 #[test]
-fn found_exactly_where_an_entry_equals() {
-    let mut random = Random(2);
+fn index_is_found_exactly_where_an_entry_equals() {
+    let mut random = Random::new(2);
     for _ in 0..300 {
         // Few values, so that entries repeat and many colors are missing.
         let palette: Vec<u8> = (0..768).map(|_| random.byte() % 7).collect();
@@ -54,7 +54,7 @@ fn bytes_across_two_entries_are_no_entry() {
 }
 
 #[test]
-fn nothing_in_a_short_palette() {
+fn short_palette_has_no_entry() {
     for len in [0, 3, 767] {
         assert_eq!(palette_look(&vec![0; len], [0, 0, 0]), None);
     }

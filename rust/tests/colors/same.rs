@@ -1,6 +1,7 @@
 //! Same picture.
 
-use crate::{color, Random, DEPTHS};
+use crate::random::Random;
+use crate::{color, DEPTHS};
 use nulambiro::{same_picture, Picture};
 
 fn depth_bytes(bpp: usize) -> Option<usize> {
@@ -37,7 +38,7 @@ fn palette(random: &mut Random) -> Vec<u8> {
     let few: Vec<[u8; 3]> = (0..6)
         .map(|_| [0; 3].map(|_: u8| random.byte() & 0xF8))
         .collect();
-    (0..256).flat_map(|_| few[random.below(6)]).collect()
+    (0..256).flat_map(|_| random.pick(&few)).collect()
 }
 
 /// A pixel of the color; the bits that a depth ignores are by chance.
@@ -46,7 +47,7 @@ fn pixel(random: &mut Random, c: [u8; 3], bpp: usize, palette: &[u8]) -> Vec<u8>
     match bpp {
         8 => {
             let equal: Vec<usize> = (0..256).filter(|i| palette[3 * i..][..3] == c).collect();
-            vec![equal[random.below(equal.len())] as u8]
+            vec![random.pick(&equal) as u8]
         }
         15 => {
             let top = u16::from(random.byte() & 1) << 15;
@@ -58,12 +59,12 @@ fn pixel(random: &mut Random, c: [u8; 3], bpp: usize, palette: &[u8]) -> Vec<u8>
 }
 
 #[test]
-fn random_pictures_at_mixed_depths() {
-    let mut random = Random(3);
+fn pictures_of_any_two_depths_follow_the_rule() {
+    let mut random = Random::new(3);
     let mut alike = 0;
     for _ in 0..4000 {
         let palette = palette(&mut random);
-        let (width, height) = (1 + random.below(6), 1 + random.below(5));
+        let (width, height) = (random.range(1, 6), random.range(1, 5));
         let pixels = random.below(width * height + 1);
         let wanted: Vec<[u8; 3]> = (0..width * height)
             .map(|_| {
@@ -71,13 +72,13 @@ fn random_pictures_at_mixed_depths() {
                 [palette[entry], palette[entry + 1], palette[entry + 2]]
             })
             .collect();
-        let depths = [DEPTHS[random.below(4)], DEPTHS[random.below(4)]];
+        let depths = [random.pick(&DEPTHS), random.pick(&DEPTHS)];
         let mut bytes = depths.map(|(bpp, _)| {
             let of = |c: &[u8; 3]| pixel(&mut random, *c, bpp, &palette);
             wanted.iter().flat_map(of).collect::<Vec<u8>>()
         });
         // Half of the time one byte changes, perhaps after the painted pixels, perhaps unseen.
-        if random.below(2) == 0 {
+        if random.one_in(2) {
             let at = random.below(bytes[0].len());
             bytes[0][at] ^= 1 << random.below(8);
         }
@@ -96,12 +97,12 @@ fn random_pictures_at_mixed_depths() {
 }
 
 #[test]
-fn each_number_counts() {
-    let mut random = Random(4);
+fn every_number_of_a_picture_counts() {
+    let mut random = Random::new(4);
     let palette = palette(&mut random);
     let bytes = vec![7; 64];
     let numbers = [0, 1, 2, 3, 4, 6, 8, 12, 15, 16, 24, 8192, 8193, usize::MAX];
-    let mut any = || numbers[random.below(numbers.len())];
+    let mut any = || random.pick(&numbers);
     let mut pictures = vec![];
     for _ in 0..400 {
         pictures.push(Picture {
@@ -112,17 +113,15 @@ fn each_number_counts() {
             bpp: [8, 15, 16, 24, any()][any() % 5],
         });
     }
+    let mut alike = 0;
     for a in &pictures {
         for b in &pictures {
-            assert_eq!(same_picture(a, b, &palette), checked_rule(a, b, &palette));
+            let expected = rule(a, b, &palette);
+            assert_eq!(same_picture(a, b, &palette), expected, "{a:?} {b:?}");
+            alike += usize::from(expected);
         }
     }
-}
-
-/// The rule, for numbers whose product may not fit.
-fn checked_rule(a: &Picture, b: &Picture, palette: &[u8]) -> bool {
-    let small = |p: &Picture| p.width <= 8192 && p.height <= 8192;
-    small(a) && small(b) && rule(a, b, palette)
+    assert!(alike > 0, "no two of the pictures are alike");
 }
 
 #[test]
