@@ -21,10 +21,12 @@ use crate::Refusal;
 ///
 /// [`Refusal::InvalidBpp`], and at 8 `bpp` alone [`Refusal::BufferTooShort`] for a palette of fewer
 /// than 768 bytes.
+#[inline]
 pub fn expand(pixel: [u8; 3], bpp: usize, palette: &[u8]) -> Result<[u8; 3], Refusal> {
     let [refusal, first, second, blue, green, red, ..] = ffi_colors::expand(pixel, bpp, palette);
     match refusal {
-        0 => Ok([blue, green, red].map(|value| u8::try_from(value).expect("a channel is a byte"))),
+        // A channel is a byte by the contract.
+        0 => Ok([blue, green, red].map(|channel| channel as u8)),
         _ => Err(Refusal::from_numbers(refusal, first, second)),
     }
 }

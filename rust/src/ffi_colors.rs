@@ -51,6 +51,7 @@ extern "C" {
 }
 
 /// Returns the report: refusal, first, second, blue, green, red.
+#[inline]
 pub(crate) fn expand(pixel: [u8; 3], bpp: usize, palette: &[u8]) -> [u64; 8] {
     let mut report = [0; 8];
     let [low, middle, high] = pixel;

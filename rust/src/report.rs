@@ -72,6 +72,9 @@ pub enum Refusal {
 
 impl Refusal {
     /// Reads a refusal's number and the two numbers that belong to it.
+    // Inlined into `expand`, it would load both before the refusal is tested, which stalls.
+    #[cold]
+    #[inline(never)]
     pub(crate) fn from_numbers(refusal: u64, first: u64, second: u64) -> Self {
         let (first, second) = (number(first), number(second));
         match refusal {
