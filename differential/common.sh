@@ -1,37 +1,78 @@
-# Sourced by the scripts that compare the library with IronRDP's rle.rs.
+# shellcheck shell=bash
+# Sourced by the scripts that build programs over the library, some of them beside IronRDP's rle.rs.
 #
-# NULAMBIRO_LIB_DIR  the folder of libnulambiro.a, if it is not target/staticlib
-# RLE_RS             the rle.rs to compare with, if it is not in a folder beside the repository
+# NULAMBIRO_LIB_DIR  the folder of libnulambiro.a; without it, target/staticlib
+# RLE_RS             the rle.rs to compare with, crates/ironrdp-graphics/src/rle.rs of IronRDP at
+#                    commit 7793f5232a; without it, one that is found beside the repository
 root=$(cd "$(dirname "${BASH_SOURCE[0]}")/.." && pwd)
 library=$(realpath -m "${NULAMBIRO_LIB_DIR:-$root/target/staticlib}")
-oracle=$(realpath -m "${RLE_RS:-$root/../shared/docs/src/crates/ironrdp-graphics/src/rle.rs}")
 
-# Ends the script where the library has not been built.
+# Ends the script with a message.
+fail() {
+  echo "${0##*/}: $*" >&2
+  exit 1
+}
+
+# Prints the lines of comment at the head of the script, and ends it.
+usage() {
+  sed -n '2,/^[^#]/s/^# \{0,1\}//p' "$0" >&2
+  exit 2
+}
+
+# Ends the script where one of the commands named is missing.
+require_command() {
+  local command
+  for command in "$@"; do
+    command -v "$command" >/dev/null || fail "the command $command is missing"
+  done
+}
+
 require_library() {
-  if [ ! -f "$library/libnulambiro.a" ]; then
-    echo "$library/libnulambiro.a is missing: run 'rt staticlib nulambiro'" >&2
-    exit 1
-  fi
+  [ -f "$library/libnulambiro.a" ] ||
+    fail "$library/libnulambiro.a is missing: run 'rt staticlib nulambiro'"
 }
 
-# Ends the script where there is no rle.rs: well if none was named, else with an error.
-require_oracle() {
-  [ ! -f "$oracle" ] || return 0
+# Prints the path of rle.rs: the one that RLE_RS names, or the first of a checkout of IronRDP in a
+# folder beside the repository or up to two folders below it. Prints nothing where there is none.
+find_oracle() {
+  local found
   if [ -n "${RLE_RS:-}" ]; then
-    echo "RLE_RS: there is no file $RLE_RS" >&2
-    exit 1
+    realpath -m "$RLE_RS"
+    return
   fi
-  echo "$1: skipped, there is no rle.rs to compare with (name one by RLE_RS)"
-  exit 0
+  for found in "$root"/../{*,*/*,*/*/*}/crates/ironrdp-graphics/src/rle.rs; do
+    if [ -f "$found" ]; then
+      realpath "$found"
+      return
+    fi
+  done
 }
 
-# Builds NAME from its main file, with rle.rs as the crate rle and the package as nulambiro.
-build_beside_oracle() {
-  local name=$1 main=$2 out=$root/target/$1
+# build NAME MAIN CRATE...: builds target/NAME/NAME from its main file over the crates named.
+build() {
+  local name=$1 main=$2 out=$root/target/$1 crate externs=()
+  shift 2
+  require_command rustc
   mkdir -p "$out"
-  rustc --edition 2021 -O -A warnings --crate-type rlib --crate-name rle "$oracle" -o "$out/librle.rlib"
+  for crate in "$@"; do
+    "build_$crate" "$out/lib$crate.rlib"
+    externs+=(--extern "$crate=$out/lib$crate.rlib")
+  done
+  rustc --edition 2021 -O --crate-name "$name" "$main" -o "$out/$name" "${externs[@]}"
+}
+
+# The package over the library.
+build_nulambiro() {
+  require_library
   rustc --edition 2021 -O --crate-type rlib --crate-name nulambiro "$root/rust/src/lib.rs" \
-    -L native="$library" -l static=nulambiro -o "$out/libnulambiro.rlib"
-  rustc --edition 2021 -O --crate-name "$name" "$main" -o "$out/$name" \
-    --extern rle="$out/librle.rlib" --extern nulambiro="$out/libnulambiro.rlib"
+    -L native="$library" -l static=nulambiro -o "$1"
+}
+
+# rle.rs as it is; what the compiler thinks of it is no concern here.
+build_rle() {
+  local oracle
+  oracle=$(find_oracle)
+  [ -n "$oracle" ] || fail "there is no rle.rs to compare with: name one by RLE_RS"
+  [ -f "$oracle" ] || fail "RLE_RS: there is no file $oracle"
+  rustc --edition 2021 -O -A warnings --crate-type rlib --crate-name rle "$oracle" -o "$1"
 }
