@@ -5,7 +5,7 @@ use crate::check::{Checker, Effort};
 use crate::heap;
 use crate::random::Random;
 use crate::shrink::Failure;
-use crate::streams::{bytes, damage, every_form, orders, picture, DEPTHS};
+use crate::streams::{bytes, damage, every_form, filling, orders, picture, DEPTHS};
 use std::ops::RangeInclusive;
 use std::process::exit;
 
@@ -33,6 +33,9 @@ const SMALL: [(usize, usize); 12] = [
     (287, 1),
     (33, 33),
 ];
+
+/// Widths at which every form of orders is tried.
+const WIDTHS: [usize; 8] = [1, 2, 3, 5, 16, 31, 300, 8192];
 
 /// Sides and depths near every limit, and some that are good if their high bits are lost.
 const SIDES: [usize; 13] = [
@@ -97,13 +100,15 @@ impl Run {
                 self.every_form(1);
                 self.by_chance(100_000);
                 self.package(50_000);
+                self.largest();
             }
             Mode::Long => {
                 self.every_stream("every stream of up to 2 bytes", 0..=2, &SMALL);
                 self.every_stream("every stream of 3 bytes", 3..=3, &[(4, 2), (3, 11)]);
-                self.every_form(10);
+                self.every_form(3);
                 self.by_chance(3_000_000);
                 self.package(500_000);
+                self.largest();
             }
             Mode::Valgrind => {
                 self.every_stream("every stream of up to 1 byte", 0..=1, &SMALL[..1]);
@@ -129,27 +134,58 @@ impl Run {
         });
     }
 
-    /// Each order at the start of the first row and of the second, inside of both, with and without
-    /// an insert pending, in a picture whose end it reaches or just passes.
+    /// Each order in the first row and in later ones, with no insert, one pending and one dropped, in
+    /// a picture that it just fills or passes, whole and cut off, and in one with rows to spare.
     fn every_form(&mut self, times: usize) {
         self.group("every form of orders", |run| {
-            for picture in with_depths(&[(5, 1), (16, 1), (31, 1)]).repeat(times) {
-                let row = 0x20 | picture.width as u8;
-                let starts: [&[u8]; 5] = [&[], &[0x01], &[row], &[row, 0x23], &[row, 0x22, 0x01]];
+            for picture in with_depths(&WIDTHS.map(|width| (width, 1))).repeat(times) {
                 for order in every_form(&mut run.random, picture) {
-                    let height = 1 + order.pixels.div_ceil(picture.width);
-                    let picture = Picture { height, ..picture };
-                    for start in starts {
-                        let stream = &[start, &order.bytes, &[0x03]].concat();
-                        let short = stream.len() < 16;
-                        let effort = if short {
-                            Effort::Orders
-                        } else {
-                            Effort::Targets
-                        };
-                        run.check(Case { stream, picture }, effort);
+                    let rows = 1 + order.pixels.div_ceil(picture.width);
+                    let [tight, roomy] =
+                        [rows, rows + 8].map(|height| Picture { height, ..picture });
+                    for start in starts(picture.width) {
+                        run.whole(&start, &order.bytes, tight);
+                        run.whole(&start, &order.bytes, roomy);
+                        run.cut_off(&start, &order.bytes, tight);
                     }
                 }
+            }
+        });
+    }
+
+    /// Behind the order stand runs that show the insert and the foreground it leaves.
+    fn whole(&mut self, start: &[u8], order: &[u8], picture: Picture) {
+        self.check_form(&[start, order, &[0x03, 0x22]].concat(), picture);
+    }
+
+    fn cut_off(&mut self, start: &[u8], order: &[u8], picture: Picture) {
+        let len = order.len();
+        let mut cuts = vec![1, 2, 3, len / 2, len - 1];
+        cuts.retain(|cut| (1..len).contains(cut));
+        cuts.sort_unstable();
+        cuts.dedup();
+        for cut in cuts {
+            self.check_form(&[start, &order[..cut]].concat(), picture);
+        }
+    }
+
+    fn check_form(&mut self, stream: &[u8], picture: Picture) {
+        let effort = match picture.width * picture.height {
+            0..=1024 if stream.len() <= 16 => Effort::Orders,
+            0..=8192 => Effort::Targets,
+            _ => Effort::Basic,
+        };
+        self.check(Case { stream, picture }, effort);
+    }
+
+    /// The largest pictures, painted to their last pixel, and an order after that.
+    fn largest(&mut self) {
+        self.group("largest pictures", |run| {
+            for picture in with_depths(&[(8192, 8192)]) {
+                let mut stream = filling(&mut run.random, picture);
+                stream.push(0xFE);
+                let stream = &stream;
+                run.check(Case { stream, picture }, Effort::Basic);
             }
         });
     }
@@ -273,4 +309,26 @@ impl Run {
 fn with_depths(sizes: &Sizes) -> Vec<Picture> {
     let with_depth = |&(width, height)| DEPTHS.map(|bpp| Picture { width, height, bpp });
     sizes.iter().flat_map(with_depth).collect()
+}
+
+/// What may stand before an order: nothing, an insert pending, the first row all but its last pixel,
+/// the first row, the first row with an insert that is dropped, and two or three pixels of later
+/// rows without and with an insert pending.
+fn starts(width: usize) -> Vec<Vec<u8>> {
+    let run = |header: u8, length: usize| {
+        let [low, high] = (length as u16).to_le_bytes();
+        vec![header, low, high]
+    };
+    let mut starts = vec![
+        vec![],
+        vec![0x01],
+        run(0xF1, width),
+        run(0xF0, width),
+        [run(0xF1, width), vec![0x22]].concat(),
+        [run(0xF1, width), vec![0x22, 0x01]].concat(),
+    ];
+    if width > 1 {
+        starts.push(run(0xF1, width - 1));
+    }
+    starts
 }

@@ -1,12 +1,17 @@
 //! Makes a failing case smaller, as long as it still fails.
 
 use crate::case::{Case, Picture};
+use std::time::{Duration, Instant};
+
+/// How long a case may be made smaller: the largest pictures take a good part of a second each time.
+const PATIENCE: Duration = Duration::from_secs(20);
 
 /// A case that fails, and what is wrong with it.
 pub struct Failure {
     stream: Vec<u8>,
     picture: Picture,
     pub what: String,
+    found: Instant,
 }
 
 /// Says what is wrong with a case, if it fails.
@@ -18,6 +23,7 @@ impl Failure {
             stream: case.stream.to_vec(),
             picture: case.picture,
             what,
+            found: Instant::now(),
         }
     }
 
@@ -28,9 +34,14 @@ impl Failure {
         }
     }
 
-    /// Cuts bytes out of the stream and lowers the sides until nothing more can go.
+    /// Lowers the sides and cuts bytes out of the stream until nothing more can go, or for as long as
+    /// there is patience.
     pub fn shrink(&mut self, check: Check) {
-        while self.cut_bytes(check) || self.lower_sides(check) {}
+        while self.lower_sides(check) || self.cut_bytes(check) {}
+    }
+
+    fn is_late(&self) -> bool {
+        self.found.elapsed() > PATIENCE
     }
 
     fn cut_bytes(&mut self, check: Check) -> bool {
@@ -38,7 +49,7 @@ impl Failure {
         let mut size = before;
         while size > 0 {
             let mut start = 0;
-            while start + size <= self.stream.len() {
+            while start + size <= self.stream.len() && !self.is_late() {
                 let mut stream = self.stream.clone();
                 stream.drain(start..start + size);
                 // Where a part was cut, the next one has moved to its place.
@@ -62,7 +73,7 @@ impl Failure {
         ];
         smaller.into_iter().any(|(width, height)| {
             let picture = Picture { width, height, bpp };
-            picture != old && self.takes(self.stream.clone(), picture, check)
+            !self.is_late() && picture != old && self.takes(self.stream.clone(), picture, check)
         })
     }
 
@@ -75,7 +86,7 @@ impl Failure {
         match check(case) {
             Ok(()) => false,
             Err(what) => {
-                *self = Self::new(case, what);
+                (self.stream, self.picture, self.what) = (stream, picture, what);
                 true
             }
         }

@@ -209,9 +209,10 @@ pub struct Order {
 }
 
 /// Every kind of orders in every form of its length, with every length up to 287 and some longer
-/// ones, and the orders without a length.
+/// ones, the orders without a length, and what is no order: lengths of 0 and other headers.
 pub fn every_form(random: &mut Random, picture: Picture) -> Vec<Order> {
     let mut orders = Vec::new();
+    let mut add = |bytes, pixels| orders.push(Order { bytes, pixels });
     for kind in KINDS {
         let header = (1..=kind.most).map(|number| (Place::Header, number * kind.unit));
         let byte = (kind.offset..kind.offset + 256).map(|length| (Place::Byte, length));
@@ -220,19 +221,37 @@ pub fn every_form(random: &mut Random, picture: Picture) -> Vec<Order> {
         for (place, length) in header.chain(byte).chain(two) {
             let mut writer = Writer::new(random, picture);
             writer.write(kind, place, length);
-            orders.push(Order {
-                bytes: writer.stream,
-                pixels: writer.painted,
-            });
+            add(writer.stream, writer.painted);
         }
+        add(vec![kind.long, 0, 0], 0);
     }
     for (header, pixels) in WITHOUT_LENGTH.into_iter().zip([8, 8, 1, 1]) {
-        orders.push(Order {
-            bytes: vec![header],
-            pixels,
-        });
+        add(vec![header], pixels);
+    }
+    for header in NO_ORDERS {
+        add(vec![header], 0);
     }
     orders
+}
+
+/// A stream that paints the whole picture with all kinds of orders, as long as they can be; those
+/// with a tail are of a few hundred pixels, to keep the stream short.
+pub fn filling(random: &mut Random, picture: Picture) -> Vec<u8> {
+    let mut writer = Writer::new(random, picture);
+    for kind in KINDS.into_iter().cycle() {
+        let left = writer.pixels - writer.painted;
+        if left == 0 {
+            break;
+        }
+        match left / kind.pixels_per_length() {
+            0 => {}
+            most if kind.tail == Tail::Nothing || most < 300 => {
+                writer.write(kind, Place::Two, most);
+            }
+            most => writer.write(kind, Place::Byte, most),
+        }
+    }
+    writer.stream
 }
 
 /// Width, height and depth of a picture, mostly of a few hundred pixels.
