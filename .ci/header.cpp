@@ -1,8 +1,97 @@
-// The header serves C++ too: this program links with the library and calls it.
+// The header serves C++ too: this program links with the library and calls each
+// function by its declaration.
 #include "nulambiro.h"
 
+#include <cstdio>
+#include <cstring>
+
+static int failures = 0;
+
+static void expect(bool good, const char *what) {
+  if (!good) {
+    std::fprintf(stderr, "header: wrong answer of %s\n", what);
+    failures++;
+  }
+}
+
+// What is called has to write the whole report, over what it held before.
+struct Report {
+  uint64_t places[NULAMBIRO_REPORT_PLACES];
+  Report() { std::memset(places, 0xff, sizeof places); }
+  uint64_t operator[](int place) const { return places[place]; }
+};
+
+static void decompress() {
+  // An image of six pixels in a picture of 2 x 3 pixels, and no order after it.
+  const uint8_t stream[] = {0x86, 1, 2, 3, 4, 5, 6, 0xff};
+  uint8_t target[7] = {9, 9, 9, 9, 9, 9, 9};
+  const uint8_t painted[7] = {1, 2, 3, 4, 5, 6, 9};
+  Report report;
+  nulambiro_decompress(stream, sizeof stream, target, sizeof target, 2, 3, 8,
+                       report.places);
+  expect(report[NULAMBIRO_REFUSAL] == NULAMBIRO_BAD_ORDER_CODE &&
+             report[NULAMBIRO_PIXELS] == 6 && report[NULAMBIRO_ORDERS] == 1 &&
+             std::memcmp(target, painted, sizeof target) == 0,
+         "nulambiro_decompress");
+
+  Report large;
+  nulambiro_decompress(nullptr, 0, nullptr, 0, 8193, 2, 8, large.places);
+  expect(large[NULAMBIRO_FORMAT] == 0 &&
+             large[NULAMBIRO_REFUSAL] == NULAMBIRO_DIMENSIONS_TOO_LARGE &&
+             large[NULAMBIRO_FIRST] == 8193 && large[NULAMBIRO_SECOND] == 2 &&
+             large[6] == 0 && large[7] == 0,
+         "nulambiro_decompress for a large picture");
+}
+
+static void colors() {
+  uint8_t palette[NULAMBIRO_PALETTE_BYTES] = {0};
+  palette[3 * 7] = 10;
+  palette[3 * 7 + 1] = 20;
+  palette[3 * 7 + 2] = 30;
+  Report report;
+  nulambiro_expand(7, 8, 9, 8, palette, sizeof palette, report.places);
+  expect(report[NULAMBIRO_EXPAND_REFUSAL] == NULAMBIRO_OK &&
+             report[NULAMBIRO_EXPAND_BLUE] == 10 &&
+             report[NULAMBIRO_EXPAND_GREEN] == 20 &&
+             report[NULAMBIRO_EXPAND_RED] == 30 && report[6] == 0 &&
+             report[7] == 0,
+         "nulambiro_expand");
+  expect(nulambiro_palette_look(palette, sizeof palette, 10, 20, 30) == 7,
+         "nulambiro_palette_look");
+  expect(nulambiro_palette_look(palette, sizeof palette, 30, 20, 10) ==
+             NULAMBIRO_NO_ENTRY,
+         "nulambiro_palette_look for a color that is not there");
+
+  // One painted pixel of 1 x 2, the index 7 and the color of that entry.
+  const uint8_t index[2] = {7, 0}, color[6] = {10, 20, 30, 1, 1, 1};
+  expect(nulambiro_same_picture(index, sizeof index, 1, 1, 2, 8, color,
+                                sizeof color, 1, 1, 2, 24, palette,
+                                sizeof palette) == 1,
+         "nulambiro_same_picture");
+  expect(nulambiro_same_picture(index, sizeof index, 2, 1, 2, 8, color,
+                                sizeof color, 2, 1, 2, 24, palette,
+                                sizeof palette) == 0,
+         "nulambiro_same_picture for another pixel");
+}
+
+static void rows() {
+  // Of 4 x 3 pixels of two bytes, seven are painted: row 1 is not whole.
+  Report whole, partly;
+  nulambiro_row_to_show(25, 7, 24, 16, 4, 3, 0, whole.places);
+  expect(whole[NULAMBIRO_ROW_ON_SCREEN] == 0 &&
+             whole[NULAMBIRO_ROW_START] == 0 &&
+             whole[NULAMBIRO_ROW_LENGTH] == 8 && whole[3] == 0 && whole[7] == 0,
+         "nulambiro_row_to_show");
+  nulambiro_row_to_show(25, 7, 24, 16, 4, 3, 1, partly.places);
+  expect(partly[NULAMBIRO_ROW_ON_SCREEN] == 1 &&
+             partly[NULAMBIRO_ROW_START] == 8 &&
+             partly[NULAMBIRO_ROW_LENGTH] == 8,
+         "nulambiro_row_to_show for a row that is not whole");
+}
+
 int main() {
-  uint64_t report[NULAMBIRO_REPORT_PLACES];
-  nulambiro_decompress(nullptr, 0, nullptr, 0, 4, 2, 8, report);
-  return report[NULAMBIRO_REFUSAL] == NULAMBIRO_BUFFER_TOO_SHORT ? 0 : 1;
+  decompress();
+  colors();
+  rows();
+  return failures == 0 ? 0 : 1;
 }

@@ -20,7 +20,7 @@ extern "C" {
 /* The most pixels that one side of a picture may have. */
 #define NULAMBIRO_MAX_SIDE 8192
 
-/* The most pixels that one byte of a stream can paint. */
+/* A stream paints at most this many pixels for each of its bytes. */
 #define NULAMBIRO_MAX_PIXELS_PER_BYTE 26214
 
 /* Places in the report. */
@@ -45,6 +45,11 @@ enum {
  * first four are tested in the order of their numbers, before the stream is
  * read: they change no byte of the target, and both counts are 0. The others
  * come from the stream: the pixels painted before them stay.
+ *
+ * Inside an order its length is tested first (6 or 8), then the pixels that it
+ * reads (6), then the space for all that it paints (7), and then it paints. A
+ * foreground/background image tests each of its masks instead (6, then 7) and
+ * paints before it reads the next one.
  */
 enum {
   NULAMBIRO_OK = 0,
@@ -59,11 +64,12 @@ enum {
   NULAMBIRO_BUFFER_TOO_SHORT = 4,
   /* A header byte is no order: A0 to BF, F5, FB, FC or FF. */
   NULAMBIRO_BAD_ORDER_CODE = 5,
-  /* The stream ends inside an order. First: bytes expected. Second: bytes
-   * left. */
+  /* The stream ends inside an order. First: bytes that the order reads next.
+   * Second: bytes left in the stream. */
   NULAMBIRO_NOT_ENOUGH_BYTES = 6,
-  /* An order goes past the end of the picture. First: bytes of the picture
-   * that are left. Second: bytes that it would write. */
+  /* An order goes past the end of the picture. First: bytes left in the
+   * picture. Second: bytes that the order, or the next mask of its image,
+   * would write. */
   NULAMBIRO_INVALID_IMAGE_SIZE = 7,
   /* A run length of two bytes is 0. */
   NULAMBIRO_UNEXPECTED_ZERO_LENGTH = 8
@@ -98,8 +104,8 @@ enum {
  * What the caller must provide:
  * - src must be readable for src_len bytes, dst readable and writable for
  *   dst_len bytes. Either may be a null pointer if its length is 0.
- * - report must have NULAMBIRO_REPORT_PLACES elements. Their old values do
- *   not matter; all of them are written.
+ * - report must have NULAMBIRO_REPORT_PLACES elements, so it is never null.
+ *   Their old values do not matter; all of them are written.
  * - src, dst and report must not overlap.
  * Nothing is required of width, height and bpp: bad values are refused.
  */
@@ -137,8 +143,9 @@ enum {
  *
  * Refused are, in this order:
  * - NULAMBIRO_INVALID_BPP: bpp is none of 8, 15, 16 and 24. First: bpp.
- * - NULAMBIRO_BUFFER_TOO_SHORT, at 8 bpp alone: the palette has fewer than
- *   NULAMBIRO_PALETTE_BYTES bytes. First: these. Second: palette_len.
+ * - NULAMBIRO_BUFFER_TOO_SHORT, at 8 bpp alone: the palette is shorter than
+ *   NULAMBIRO_PALETTE_BYTES. First: NULAMBIRO_PALETTE_BYTES. Second:
+ *   palette_len.
  *
  * What the caller must provide: palette must be readable for palette_len
  * bytes, or may be a null pointer if that is 0. report must have
@@ -201,7 +208,9 @@ enum {
  * Writes to report where a row stands that is to be shown: row `row` of the
  * new picture if it is wholly painted, (row + 1) * width <= pixels, else the
  * same part of the picture on screen. new_len and screen_len are the lengths
- * of the two pictures in bytes; the part lies inside both of them.
+ * of the two pictures in bytes; the part lies inside both of them. pixels is
+ * what the report of nulambiro_decompress counts for the new picture; a count
+ * above width * height means a whole picture too.
  *
  * The part is empty, start and length 0 in the new picture, if bpp is none of
  * 8, 15, 16 and 24, width or height is not 1 to NULAMBIRO_MAX_SIDE, row is not
