@@ -1,6 +1,6 @@
 /*
- * This decoder behind the interface that the comparing programs (plugcheck
- * and bench) load from a shared library.
+ * This decoder behind the interface that the peers' programs load from a
+ * shared library: bench/run builds it and hands it to them.
  */
 #include "nulambiro.h"
 

@@ -116,7 +116,24 @@ impl Checker {
         let bounded =
             report.orders <= report.pixels && report.pixels <= 26_214 * case.stream.len() as u64;
         same("orders <= pixels <= 26214 * stream bytes", true, bounded)?;
+        self.left(case, report)?;
         same("guard bytes untouched", true, self.lent.is_guarded())
+    }
+
+    /// No more is painted than the picture has, and refusal 7 says how many bytes of it are left.
+    fn left(&self, case: Case, report: Report) -> Checked {
+        let whole = case.picture.len().unwrap_or(0) as u64;
+        let pixel = case.picture.bytes_per_pixel().unwrap_or(1) as u64;
+        match (whole.checked_sub(report.pixels * pixel), report.answer) {
+            (None, _) => Err(format!("{} pixels painted", report.pixels)),
+            (
+                Some(left),
+                Answer {
+                    refusal: 7, first, ..
+                },
+            ) => same("picture bytes left", left, first),
+            _ => Ok(()),
+        }
     }
 
     /// A longer target gets the same report and painted bytes, and keeps all others.

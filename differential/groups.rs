@@ -5,7 +5,7 @@ use crate::check::{Checker, Effort};
 use crate::heap;
 use crate::random::Random;
 use crate::shrink::Failure;
-use crate::streams::{bytes, damage, every_form, filling, orders, picture, DEPTHS};
+use crate::streams::{bytes, damage, filling, forms, orders, picture, DEPTHS};
 use std::ops::RangeInclusive;
 use std::process::exit;
 
@@ -139,7 +139,7 @@ impl Run {
     fn every_form(&mut self, times: usize) {
         self.group("every form of orders", |run| {
             for picture in with_depths(&WIDTHS.map(|width| (width, 1))).repeat(times) {
-                for order in every_form(&mut run.random, picture) {
+                for order in forms(&mut run.random, picture) {
                     let rows = 1 + order.pixels.div_ceil(picture.width);
                     let [tight, roomy] =
                         [rows, rows + 8].map(|height| Picture { height, ..picture });

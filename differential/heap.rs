@@ -44,8 +44,9 @@ pub fn check(case: Case) -> Result<(), String> {
     Ok(())
 }
 
+/// Looks at every place of the report: valgrind then sees one that the library did not write.
 fn expect(good: bool, case: Case, given: usize, report: Report) -> Result<(), String> {
-    if good {
+    if good && report.orders <= report.pixels && report.unused == [0, 0] {
         return Ok(());
     }
     let bytes = case.stream.len();

@@ -210,7 +210,7 @@ pub struct Order {
 
 /// Every kind of orders in every form of its length, with every length up to 287 and some longer
 /// ones, the orders without a length, and what is no order: lengths of 0 and other headers.
-pub fn every_form(random: &mut Random, picture: Picture) -> Vec<Order> {
+pub fn forms(random: &mut Random, picture: Picture) -> Vec<Order> {
     let mut orders = Vec::new();
     let mut add = |bytes, pixels| orders.push(Order { bytes, pixels });
     for kind in KINDS {

@@ -24,6 +24,11 @@
 //! assert_eq!(target, [0xFF, 0xFF, 0xFF, 0xFF, 0x00, 0x00, 0x55, 0x55]);
 //! # Ok::<(), nulambiro::Refusal>(())
 //! ```
+//!
+//! # Linking
+//!
+//! The build script takes `libnulambiro.a` from the folder that `NULAMBIRO_LIB_DIR` names, or from
+//! where `rt staticlib nulambiro` writes it in the repository of this package.
 #![deny(missing_docs)]
 #![deny(unsafe_code)]
 
