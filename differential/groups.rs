@@ -134,8 +134,8 @@ impl Run {
         });
     }
 
-    /// Each order in the first row and in later ones, with no insert, one pending and one dropped, in
-    /// a picture that it just fills or passes, whole and cut off, and in one with rows to spare.
+    /// Each order in the first row and in later ones, with no insert, one pending and one dropped,
+    /// in a picture that it just fills or passes, whole and cut off, and in one with rows to spare.
     fn every_form(&mut self, times: usize) {
         self.group("every form of orders", |run| {
             for picture in with_depths(&WIDTHS.map(|width| (width, 1))).repeat(times) {
@@ -311,9 +311,9 @@ fn with_depths(sizes: &Sizes) -> Vec<Picture> {
     sizes.iter().flat_map(with_depth).collect()
 }
 
-/// What may stand before an order: nothing, an insert pending, the first row all but its last pixel,
-/// the first row, the first row with an insert that is dropped, and two or three pixels of later
-/// rows without and with an insert pending.
+/// What may stand before an order: nothing; an insert pending; the first row; the first row with an
+/// insert that is dropped; some pixels of later rows, without and with an insert pending; the first
+/// row all but its last pixel.
 fn starts(width: usize) -> Vec<Vec<u8>> {
     let run = |header: u8, length: usize| {
         let [low, high] = (length as u16).to_le_bytes();

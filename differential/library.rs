@@ -40,7 +40,7 @@ pub fn decode_in_new_block(case: Case, len: usize) -> (Report, Vec<u8>) {
 unsafe fn call(case: Case, target: *mut u8, len: usize) -> Report {
     let Picture { width, height, bpp } = case.picture;
     let (src, src_len) = (case.stream.as_ptr(), case.stream.len());
-    // On the heap and not initialized, so that valgrind sees a write past it and a place not written.
+    // On the heap and not initialized: valgrind sees a write past it, and a place not written.
     let mut report = Box::<[u64; 8]>::new_uninit();
     let places = report.as_mut_ptr();
     // SAFETY: the stream is a slice, the caller vouches for the target, the report has its eight

@@ -3,7 +3,7 @@
 use crate::case::{Case, Picture};
 use std::time::{Duration, Instant};
 
-/// How long a case may be made smaller: the largest pictures take a good part of a second each time.
+/// How long a case may be made smaller: each try of a large picture takes part of a second.
 const PATIENCE: Duration = Duration::from_secs(20);
 
 /// A case that fails, and what is wrong with it.
@@ -34,8 +34,8 @@ impl Failure {
         }
     }
 
-    /// Lowers the sides and cuts bytes out of the stream until nothing more can go, or for as long as
-    /// there is patience.
+    /// Lowers the sides and cuts bytes out of the stream until nothing more can go, or patience
+    /// ends.
     pub fn shrink(&mut self, check: Check) {
         while self.lower_sides(check) || self.cut_bytes(check) {}
     }

@@ -102,48 +102,49 @@ fn errors_carry_the_numbers_of_the_stream() {
     }
 }
 
+const MESSAGES: [(RleError, &str); 7] = [
+    (
+        RleError::InvalidBpp { bpp: 32 },
+        "32 bits per pixel are not supported, only 8, 15, 16 and 24",
+    ),
+    (
+        RleError::BadOrderCode,
+        "the stream has a header byte that is no order",
+    ),
+    (
+        RleError::NotEnoughBytes {
+            expected: 2,
+            actual: 1,
+        },
+        "the stream ends inside an order: 2 bytes expected, 1 left",
+    ),
+    (
+        RleError::InvalidImageSize {
+            maximum_additional: 8,
+            required_additional: 9,
+        },
+        "an order goes past the end of the picture: it writes 9 bytes, 8 are left",
+    ),
+    (
+        RleError::EmptyImage,
+        "the picture is empty: its width or height is 0",
+    ),
+    (
+        RleError::UnexpectedZeroLength,
+        "an order has a two-byte run length of 0",
+    ),
+    (
+        RleError::DimensionsTooLarge {
+            width: 8193,
+            height: 2,
+        },
+        "the picture is too large: 8193 x 2 pixels, but 8192 is the most each way",
+    ),
+];
+
 #[test]
 fn messages_say_what_was_wrong() {
-    let messages = [
-        (
-            RleError::InvalidBpp { bpp: 32 },
-            "32 bits per pixel are not supported, only 8, 15, 16 and 24",
-        ),
-        (
-            RleError::BadOrderCode,
-            "the stream has a header byte that is no order",
-        ),
-        (
-            RleError::NotEnoughBytes {
-                expected: 2,
-                actual: 1,
-            },
-            "the stream ends inside an order: 2 bytes expected, 1 left",
-        ),
-        (
-            RleError::InvalidImageSize {
-                maximum_additional: 8,
-                required_additional: 9,
-            },
-            "an order goes past the end of the picture: it writes 9 bytes, 8 are left",
-        ),
-        (
-            RleError::EmptyImage,
-            "the picture is empty: its width or height is 0",
-        ),
-        (
-            RleError::UnexpectedZeroLength,
-            "an order has a two-byte run length of 0",
-        ),
-        (
-            RleError::DimensionsTooLarge {
-                width: 8193,
-                height: 2,
-            },
-            "the picture is too large: 8193 x 2 pixels, but 8192 is the most each way",
-        ),
-    ];
-    for (error, message) in messages {
+    for (error, message) in MESSAGES {
         let error: Box<dyn Error> = Box::new(error);
         assert_eq!(error.to_string(), message);
     }
