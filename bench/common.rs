@@ -5,6 +5,7 @@ mod random;
 
 pub use random::Random;
 use std::env;
+use std::process::exit;
 use std::time::Instant;
 
 /// Depths with their bytes per pixel.
@@ -12,9 +13,14 @@ pub const DEPTHS: [(usize, usize); 4] = [(8, 1), (15, 2), (16, 2), (24, 3)];
 
 /// How often each call is timed: the first argument.
 pub fn rounds() -> usize {
-    let word = env::args().nth(1).and_then(|word| word.parse().ok());
-    word.filter(|rounds| *rounds > 0)
-        .expect("usage: the number of rounds, at least 1")
+    let word = env::args().nth(1).unwrap_or_default();
+    match word.parse() {
+        Ok(rounds) if rounds > 0 => rounds,
+        _ => {
+            eprintln!("{word:?} is no number of rounds");
+            exit(2);
+        }
+    }
 }
 
 /// Seconds of one call.

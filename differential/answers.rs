@@ -13,6 +13,7 @@ use case::{Case, Picture};
 use std::collections::BTreeSet;
 use std::env;
 use std::fs;
+use std::process::exit;
 
 /// The most that `replay` holds: bytes of all records, and of one target.
 const MOST_RECORDS: usize = 262_144;
@@ -27,7 +28,7 @@ struct Tile {
 
 /// The tiles of a file; a line that cannot be read ends the program.
 fn tiles(file: &str) -> Vec<Tile> {
-    let text = fs::read_to_string(file).unwrap_or_else(|error| panic!("{file}: {error}"));
+    let text = fs::read_to_string(file).unwrap_or_else(|error| fail(&format!("{file}: {error}")));
     let mut picture = Picture {
         width: 0,
         height: 0,
@@ -40,7 +41,7 @@ fn tiles(file: &str) -> Vec<Tile> {
         };
         let number = || {
             let number = value.parse();
-            number.unwrap_or_else(|_| panic!("{file}: no number in {line}"))
+            number.unwrap_or_else(|_| fail(&format!("{file}: no number in {line}")))
         };
         match key {
             "width" => picture.width = number(),
@@ -48,7 +49,7 @@ fn tiles(file: &str) -> Vec<Tile> {
             "bpp" => picture.bpp = number(),
             "stream" => {
                 let stream = bytes_of_pairs(value);
-                let stream = stream.unwrap_or_else(|| panic!("{file}: no bytes in {line}"));
+                let stream = stream.unwrap_or_else(|| fail(&format!("{file}: no bytes in {line}")));
                 found.push(Tile { picture, stream });
             }
             _ => {}
@@ -110,9 +111,16 @@ fn checksum(target: &[u8]) -> u64 {
     target.iter().fold(0, add)
 }
 
+fn fail(message: &str) -> ! {
+    eprintln!("answers: {message}");
+    exit(1);
+}
+
 fn main() {
     let mut arguments = env::args().skip(1);
-    let out = arguments.next().expect("usage: answers OUT FILE...");
+    let Some(out) = arguments.next() else {
+        fail("usage: answers OUT FILE...");
+    };
     let mut records = Vec::new();
     let mut seen = BTreeSet::new();
     for tile in arguments.flat_map(|file| tiles(&file)).filter(fits) {
@@ -121,7 +129,7 @@ fn main() {
             records.extend(record);
         }
     }
-    fs::write(&out, &records).unwrap_or_else(|error| panic!("{out}: {error}"));
+    fs::write(&out, &records).unwrap_or_else(|error| fail(&format!("{out}: {error}")));
     // What `replay` prints where all answers are those stored.
     println!("{} streams, 0 differ", seen.len());
 }
