@@ -73,6 +73,14 @@ fn slice_shorter_than_the_picture_shows_nothing() {
 }
 
 #[test]
+fn empty_part_is_one_of_the_new_picture() {
+    let (new, screen) = ([NEW; 8], [SCREEN; 8]);
+    // A good row with no pixel painted would be one on screen.
+    let shown = row_to_show(&new, 0, &screen, 8, 4, 2, 2);
+    assert_eq!((shown.as_ptr(), shown.len()), (new.as_ptr(), 0));
+}
+
+#[test]
 fn last_row_of_the_largest_picture_is_shown() {
     let len = 8192 * 8192;
     let (new, screen) = (vec![NEW; len], vec![SCREEN; len]);
