@@ -67,30 +67,30 @@ pub extern "C" fn nulambiro_palette_look(palette: &[u8], blue: u8, green: u8, re
 #[no_mangle]
 pub extern "C" fn nulambiro_same_picture(
     a: &[u8],
-    pixels: usize,
-    width: usize,
-    height: usize,
-    bpp: usize,
+    a_pixels: usize,
+    a_width: usize,
+    a_height: usize,
+    a_bpp: usize,
     b: &[u8],
-    pixels2: usize,
-    width2: usize,
-    height2: usize,
-    bpp2: usize,
+    b_pixels: usize,
+    b_width: usize,
+    b_height: usize,
+    b_bpp: usize,
     palette: &[u8],
 ) -> u8
-    ensures { λ r. ⌜ r ≡ yesNo (samePicture (now (palette .entry)) (picture (now (a .entry)) pixels width height bpp) (picture (now (b .entry)) pixels2 width2 height2 bpp2)) ⌝ }
+    ensures { λ r. ⌜ r ≡ yesNo (samePicture (now (palette .entry)) (picture (now (a .entry)) «a_pixels» «a_width» «a_height» «a_bpp») (picture (now (b .entry)) «b_pixels» «b_width» «b_height» «b_bpp»)) ⌝ }
 {
     let p = Shape {
-        pixels,
-        width,
-        height,
-        bpp,
+        pixels: a_pixels,
+        width: a_width,
+        height: a_height,
+        bpp: a_bpp,
     };
     let q = Shape {
-        pixels: pixels2,
-        width: width2,
-        height: height2,
-        bpp: bpp2,
+        pixels: b_pixels,
+        width: b_width,
+        height: b_height,
+        bpp: b_bpp,
     };
     if color::same_picture(a, p, b, q, palette) {
         1
