@@ -30,7 +30,7 @@ unfolding textOf Text.line Text.decimal Text.decimalIn Text.hexPairs Text.hexDig
 case-text = refl
 
 pub case-lines : linesOf (answerOf 4 2 8 (2 ∷ 2 ∷ [])) ≡ lines
-unfolding answerOf linesOf Answer.limited Answer.formatName Answer.formatKey Answer.refusalKey Answer.firstKey Answer.secondKey Answer.ordersKey Answer.pixelsKey Answer.paintedKey Answer.counts Answer.lines Text.line Text.decimal Text.decimalIn Text.hexPairs Text.hexDigit Report.sizeOf
+unfolding answerOf linesOf Answer.limited Answer.formatName Answer.formatKey Answer.refusalKey Answer.firstKey Answer.secondKey Answer.ordersKey Answer.pixelsKey Answer.paintedKey Text.line Text.decimal Text.decimalIn Text.hexPairs Text.hexDigit Report.sizeOf
     Pixels.firstPixel
     Pixels.pixelAt
     Pixels.bytesOf

@@ -1,26 +1,26 @@
 -- The parser undoes `textOf`: after a text it has read a whole tile exactly if the text is some tile's, and then it has that tile's
 -- numbers, and the array its stream. So what `reply` writes after a text, in chunks of any size, is the answer to the text.
 -- Assumes nothing.
-use mathlib.Core.Path.{_≡_, refl, _∙_, ap, sym, subst}
-use mathlib.Core.List.{List, [], _∷_, _++_}
+use mathlib.Core.Path.{_≡_, refl, _∙_, ap, subst}
+use mathlib.Core.List.{List}
 use mathlib.Core.Bool.{Bool, true, false}
-use Prim.Native.Nat.{ℕ, _+_, _*_, _<_, _≤_, min}
+use Prim.Native.Nat.{ℕ, _<_, _≤_, min}
 use native.Mathlib.Omega.{arith}
-use lib.Dec.{ltb, eqb}
+use lib.Dec.{eqb}
 use lib.ListN.{length, getD, take}
 use lib.Seq.{ext-getD, getD-take, length-take-le}
-use borrow.Author.Tests.{eq-eqb, ne-eqb, lt-ltb, ltb-true, ltb-false, eqb-true, eqb-false}
-use Rattle.rle.specs.Pixels.{pick}
-use Rattle.rle.specs.Decode.{Checked, away, fit, checked, ofChecked, ofRun, decode, result}
-use Rattle.rle.specs.Report.{bytes, sizeOf}
+use borrow.Author.Tests.{eq-eqb, ne-eqb, lt-ltb, eqb-true, eqb-false}
+use Rattle.rle.specs.Decode.{Checked, away, fit, checked, ofChecked, result}
+use Rattle.rle.specs.Report.{sizeOf}
 use Rattle.tile_text.specs.Text.{textOf, Tile}
-use Rattle.tile_text.specs.Answer.{badTileText, tileTooLarge, limited, answerOf, Answers, tile, noTile}
+use Rattle.tile_text.specs.Answer.{badTileText, limited, answerOf, Answers, tile, noTile}
 use Rattle.tile_text.specs.Parse.{start, fed, fedInto}
 use Rattle.tile_text.specs.Reply.{decoded, replyOf, Replies, RepliesTo}
 use Rattle.tile_text.specs.declared.parser.Parser.{Parser}
-use Rattle.tile_text.proofs.Fold.{fed-append, into-append}
-use Rattle.tile_text.proofs.Complete.{text-read, wholeOf, counted}
-use Rattle.tile_text.proofs.Sound.{inKey, inNumber, inPairs, inByte, atEnd, Reads, failed, going, text-reads}
+use Rattle.tile_text.proofs.Tests.{by-less}
+use Rattle.tile_text.proofs.Chunks.{joined, fedChunks, intoChunks, chunks-fed, chunks-into}
+use Rattle.tile_text.proofs.Complete.{text-read, atPlace, countAll}
+use Rattle.tile_text.proofs.Sound.{inKey, inNumber, inStream, atEnd, Reads, failed, going, text-reads}
 
 -- ---- the two directions
 
@@ -33,15 +33,11 @@ pub record TileRead (t : List ℕ) (p : Parser) (xs : List ℕ) : Type 0 where
   pub space : length xs ≡ 8192
   pub held : (i : ℕ) → i < 8192 → i < length stream → getD xs i 0 ≡ getD stream i 0
 
-impossible : {A : Type 0} → ⊥ → A
-impossible e = absurd e
-
 ended : (t : List ℕ) (p : Parser) (xs : List ℕ) → p .line ≡ 4 → Reads t p xs → TileRead t p xs
-ended t p xs e (failed f) = impossible (omega arith)
-ended t p xs e (going s k (inKey l n z f)) = impossible (omega arith)
-ended t p xs e (going s k (inNumber l n none small z f)) = impossible (omega arith)
-ended t p xs e (going s k (inPairs l n none f)) = impossible (omega arith)
-ended t p xs e (going s k (inByte l n none small f)) = impossible (omega arith)
+ended t p xs e (failed f) = absurd (omega arith)
+ended t p xs e (going s k (inKey l none z f)) = absurd (omega arith)
+ended t p xs e (going s k (inNumber l over small z f)) = absurd (omega arith)
+ended t p xs e (going s k (inStream l over small f)) = absurd (omega arith)
 ended t p xs e (going s k (atEnd l f)) =
     record {
       stream = s;
@@ -57,7 +53,7 @@ pub sound : (t xs : List ℕ) → length xs ≡ 8192 → fed start t .line ≡ 4
 sound t xs e l = ended t (fed start t) (fedInto start xs t) l (text-reads t xs e)
 
 -- a tile's text is read whole, with the tile's numbers
-pub complete : (t : List ℕ) (w h b : ℕ) (s : List ℕ) → Tile w h b s → t ≡ textOf w h b s → fed start t ≡ wholeOf w h b (counted 0 s)
+pub complete : (t : List ℕ) (w h b : ℕ) (s : List ℕ) → Tile w h b s → t ≡ textOf w h b s → fed start t ≡ atPlace 4 7 w h b (countAll 0 s)
 complete t w h b s g e = ap (fed start) e ∙ text-read w h b s g
 
 -- ---- the answer
@@ -67,18 +63,9 @@ limited-result : (c : Checked) (n : ℕ) (s u : List ℕ) → n ≡ min 8193 (le
     → limited (sizeOf c) n (ofChecked s c) ≡ limited (sizeOf c) (length u) (ofChecked u c)
 unfolding limited sizeOf ofChecked
 limited-result (away r) n s u e f = refl
-limited-result (fit g k) n s u e f = by-length (ltb 8192 (length u)) refl
-  where
-    by-length : (t : Bool) → ltb 8192 (length u) ≡ t
-        → pick (ltb 65536 (g .total * g .bytes)) tileTooLarge (pick (ltb 8192 n) tileTooLarge (ofRun g k (decode g s)))
-        ≡ pick (ltb 65536 (g .total * g .bytes)) tileTooLarge (pick (ltb 8192 (length u)) tileTooLarge (ofRun g k (decode g u)))
-    by-length true long =
-        let more : 8192 < n = omega (arith, ltb-true 8192 (length u) long) in
-        rw (lt-ltb 8192 n more, long)
-    by-length false short =
-        let few : length u ≤ 8192 = ltb-false 8192 (length u) short in
-        let same : n ≡ length u = omega arith in
-        rw (same, f few)
+limited-result (fit g k) n s u e f =
+    by-less 8192 (length u) (λ long. rw (lt-ltb 8192 n (omega arith), lt-ltb 8192 (length u) long))
+    (λ short. let same : n ≡ length u = omega arith in rw (same, f short))
 
 held-all : (n : ℕ) (xs s : List ℕ) → length xs ≡ 8192 → n ≡ min 8193 (length s) → length s ≤ 8192
     → ((i : ℕ) → i < 8192 → i < length s → getD xs i 0 ≡ getD s i 0) → take n xs ≡ s
@@ -114,31 +101,6 @@ answered-by t xs e false other =
 -- the answer after a text is the answer to the text
 pub answered : (t xs : List ℕ) → length xs ≡ 8192 → Answers t (replyOf (fed start t) (fedInto start xs t))
 answered t xs e = answered-by t xs e (eqb (fed start t .line) 4) refl
-
--- ---- chunks
-
--- the text of the chunks, and the state and the array after `feed` of each
-pub joined : List (List ℕ) → List ℕ
-joined [] = []
-joined (c ∷ cs) = c ++ joined cs
-
-pub fedChunks : Parser → List (List ℕ) → Parser
-fedChunks p [] = p
-fedChunks p (c ∷ cs) = fedChunks (fed p c) cs
-
-pub intoChunks : Parser → List ℕ → List (List ℕ) → List ℕ
-intoChunks p xs [] = xs
-intoChunks p xs (c ∷ cs) = intoChunks (fed p c) (fedInto p xs c) cs
-
-chunks-fed : (p : Parser) (cs : List (List ℕ)) → fedChunks p cs ≡ fed p (joined cs)
-unfolding fed joined fedChunks
-chunks-fed p [] = refl
-chunks-fed p (c ∷ cs) = chunks-fed (fed p c) cs ∙ sym (fed-append p c (joined cs))
-
-chunks-into : (p : Parser) (xs : List ℕ) (cs : List (List ℕ)) → intoChunks p xs cs ≡ fedInto p xs (joined cs)
-unfolding fedInto joined intoChunks
-chunks-into p xs [] = refl
-chunks-into p xs (c ∷ cs) = chunks-into (fed p c) (fedInto p xs c) cs ∙ sym (into-append p xs c (joined cs))
 
 -- the same for a text that comes in chunks of any size
 pub chunks-answered : (cs : List (List ℕ)) (xs : List ℕ) → length xs ≡ 8192

@@ -1,73 +1,86 @@
--- The keys: what the table of the code has is what the lines' keys have, and past a key's end there is 0. Assumes nothing.
-use mathlib.Core.Path.{_≡_, refl, sym}
-use mathlib.Core.List.{List, [], _∷_}
-use mathlib.Core.Bool.{Bool, true, false}
+-- The keys: a key's bytes are not 0, past its end there is 0, and the table of the code has the same. Assumes nothing.
+use mathlib.Core.Path.{_≡_}
+use mathlib.Core.List.{List, [], _∷_, _++_}
+use mathlib.Core.Bool.{Bool}
 use Prim.Native.Nat.{ℕ, zero, suc, _+_, _*_, _/_, _%_, _<_, _≤_}
+use native.Mathlib.Numerals.{add-one}
 use native.Mathlib.Omega.{arith}
-use lib.Dec.{T, ltb, eqb, eqb→eq}
-use borrow.Author.Tests.{ltb-true, ltb-false, eqb-false}
-use lib.ListN.{getD, List·getD-eq-default}
+use lib.Dec.{T, ltb, eqb, ltb→lt, eqb→eq}
+use lib.ListN.{length, getD, take, List·getD-eq-default}
+use lib.Seq.{take-suc, take-all}
 use Rattle.tile_text.specs.Text.{widthKey, heightKey, bppKey, streamKey}
-use Rattle.tile_text.specs.Parse.{keys, keyByte, goesOn}
-use Rattle.tile_text.specs.declared.parser.Parser.{Parser}
-use Rattle.rle.specs.Pixels.{pick}
-use Rattle.tile_text.proofs.Table.{at}
+use Rattle.tile_text.specs.Parse.{keys, keyByte}
+use Rattle.tile_text.proofs.Tests.{by-less, below, at}
 
-pub past-lines : (l place : ℕ) → 4 ≤ l → keyByte l place ≡ 0
+abbrev pub keyOf : ℕ → List ℕ
+keyOf l = getD keys l []
+
+-- ---- a key and its end
+
+key-length : (l : ℕ) → length (keyOf l) ≤ 7
+unfolding keys widthKey heightKey bppKey streamKey
+key-length zero = omega arith
+key-length (suc zero) = omega arith
+key-length (suc (suc zero)) = omega arith
+key-length (suc (suc (suc zero))) = omega arith
+key-length (suc (suc (suc (suc l)))) = omega arith
+
+past-key : (l i : ℕ) → length (keyOf l) ≤ i → keyByte l i ≡ 0
+unfolding keyByte
+past-key l i h = List·getD-eq-default (keyOf l) 0 {n = i} h
+
+pub past-seven : (l i : ℕ) → 7 ≤ i → keyByte l i ≡ 0
+past-seven l i h = past-key l i (omega (arith, key-length l))
+
+pub past-lines : (l i : ℕ) → 4 ≤ l → keyByte l i ≡ 0
 unfolding keyByte keys
-past-lines l place h = rw (List·getD-eq-default keys [] {n = l} h)
+past-lines l i h = rw (List·getD-eq-default keys [] {n = l} h)
 
-pub past-key : (l place : ℕ) → 7 ≤ place → keyByte l place ≡ 0
+pub in-key : (l i : ℕ) → 0 < keyByte l i → i < length (keyOf l)
+in-key l i h = by-less i (length (keyOf l)) (λ low. low) (λ high. omega (arith, past-key l i high))
+
+pub in-seven : (l i : ℕ) → 0 < keyByte l i → i < 7
+in-seven l i h = omega (arith, in-key l i h, key-length l)
+
+-- no byte of a key is 0
+none-zero : (key : List ℕ) (i : ℕ) → T (below (λ k. ltb 0 (getD key k 0)) (length key)) → i < length key → 0 < getD key i 0
+none-zero key i t h = ltb→lt 0 (getD key i 0) (at (λ k. ltb 0 (getD key k 0)) (length key) t i h)
+
+key-byte : (l i : ℕ) → i < length (keyOf l) → 0 < keyByte l i
 unfolding keyByte keys widthKey heightKey bppKey streamKey
-past-key zero place h = List·getD-eq-default widthKey 0 {n = place} (omega arith)
-past-key (suc zero) place h = List·getD-eq-default heightKey 0 {n = place} (omega arith)
-past-key (suc (suc zero)) place h = List·getD-eq-default bppKey 0 {n = place} (omega arith)
-past-key (suc (suc (suc zero))) place h = List·getD-eq-default streamKey 0 {n = place} (omega arith)
-past-key (suc (suc (suc (suc l)))) place h = refl
+key-byte zero i h = none-zero widthKey i tt h
+key-byte (suc zero) i h = none-zero heightKey i tt h
+key-byte (suc (suc zero)) i h = none-zero bppKey i tt h
+key-byte (suc (suc (suc zero))) i h = none-zero streamKey i tt h
+key-byte (suc (suc (suc (suc l)))) i h = absurd (omega arith)
 
--- the code's table
-abbrev pub table : List ℕ
+-- where a key is over, all of it is read
+pub key-over : (l i : ℕ) → keyByte l i ≡ 0 → take i (keyOf l) ≡ keyOf l
+key-over l i e =
+    by-less i (length (keyOf l)) (λ low. absurd (omega (arith, key-byte l i low))) (λ high. take-all i (keyOf l) high)
+
+-- one byte of a key more
+pub key-more : (l i : ℕ) → 0 < keyByte l i → take (i + 1) (keyOf l) ≡ take i (keyOf l) ++ (keyByte l i ∷ [])
+unfolding keyByte
+key-more l i h = rw add-one (take-suc (keyOf l) i 0 (in-key l i h))
+
+-- ---- the code's table
+
+abbrev table : List ℕ
 table =
     119 ∷ 105 ∷ 100 ∷ 116 ∷ 104 ∷ 61 ∷ 0 ∷ 104 ∷ 101 ∷ 105 ∷ 103 ∷ 104 ∷ 116 ∷ 61 ∷ 98 ∷ 112 ∷ 112 ∷ 61 ∷ 0 ∷ 0 ∷ 0 ∷ 115 ∷ 116
     ∷ 114 ∷ 101 ∷ 97 ∷ 109 ∷ 61 ∷ []
 
-abbrev right : ℕ → ℕ → Bool
-right k x = eqb x (keyByte (k / 7) (k % 7))
+abbrev right : ℕ → Bool
+right k = eqb (getD table k 0) (keyByte (k / 7) (k % 7))
 
-in-table : (k : ℕ) → k < 28 → T (right k (getD table k 0))
+in-table : (k : ℕ) → k < 28 → T (right k)
 unfolding keyByte keys widthKey heightKey bppKey streamKey
-in-table k h = at (λ k. right k (getD table k 0)) 28 tt k h
+in-table k h = at right 28 tt k h
 
-pub key-in-table : (l place : ℕ) → l < 4 → place < 7 → getD table (l * 7 + place) 0 ≡ keyByte l place
-key-in-table l place hl hp =
-    let q : (l * 7 + place) / 7 ≡ l = omega arith in
-    let r : (l * 7 + place) % 7 ≡ place = omega arith in
-    rw (q, r) at (eqb→eq (getD table (l * 7 + place) 0) (keyByte ((l * 7 + place) / 7) ((l * 7 + place) % 7)) (in-table (l * 7 + place) (omega arith)))
-
--- a key has at most seven bytes
-in-key-by : (l place : ℕ) (t : Bool) → ltb place 7 ≡ t → 0 < keyByte l place → place < 7
-in-key-by l place true e h = ltb-true place 7 e
-in-key-by l place false e h = omega (arith, past-key l place (ltb-false place 7 e))
-
-pub in-key : (l place : ℕ) → 0 < keyByte l place → place < 7
-in-key l place h = in-key-by l place (ltb place 7) refl h
-
--- a number that is begun and goes on is below 10,000,000
-not-zero : (b t : Bool) → pick b false t ≡ true → t ≡ true
-not-zero true t e = cc
-not-zero false t e = e
-
-pub grows : (p : Parser) → p .begun ≡ true → goesOn p ≡ true → p .value < 10_000_000
-unfolding goesOn
-grows p b g = ltb-true _ _ (not-zero (eqb (p .value) 0) _ (simp b at g))
-
-is-false : (b t : Bool) → pick b false t ≡ true → b ≡ false
-is-false true t e = sym e
-is-false false t e = refl
-
--- and it isn't 0
-pub not-zero-yet : (p : Parser) → p .begun ≡ true → goesOn p ≡ true → 0 < p .value
-unfolding goesOn
-not-zero-yet p b g =
-    let other = eqb-false (p .value) 0 (is-false (eqb (p .value) 0) _ (simp b at g)) in
-    omega (arith, other)
+pub key-in-table : (l i : ℕ) → l < 4 → i < 7 → getD table (l * 7 + i) 0 ≡ keyByte l i
+key-in-table l i low few =
+    let k = l * 7 + i in
+    let q : k / 7 ≡ l = omega arith in
+    let r : k % 7 ≡ i = omega arith in
+    rw (q, r) at (eqb→eq (getD table k 0) (keyByte (k / 7) (k % 7)) (in-table k (omega arith)))

@@ -2,27 +2,27 @@
 -- the definition's lines. Assumes nothing.
 use mathlib.Core.Path.{_≡_, refl, _∙_, ap, subst}
 use mathlib.Core.List.{List, []}
-use mathlib.Core.Bool.{Bool, true, false}
 use Prim.Native.Nat.{ℕ, _+_, _*_, _-_, _<_, _≤_}
 use native.Mathlib.Omega.{arith}
-use lib.Dec.{ltb, leb, eqb}
+use lib.Dec.{ltb}
 use lib.ListN.{length, take, length-append, length-drop}
 use lib.Seq.{take-append-seam}
 use borrow.Author.Tests.{eq-eqb, ne-eqb, lt-ltb, le-ltb}
 use Rattle.rle.specs.Pixels.{pick, bytesOf}
 use Rattle.rle.specs.Orders.{Refusal, refusal}
-use Rattle.rle.specs.Decode.{Result, Checked, away, fit, Run, ended, paused, stopped, Frame, checked, withSpace, ofChecked, ofRun, resultOf, decode, result, resultIn, fitOf, depthOf, depthIndex}
+use Rattle.rle.specs.Decode.{Result, Checked, away, fit, Run, ended, paused, stopped, Frame, checked, withSpace, ofChecked, ofRun, resultOf, decode, result, resultIn, fitOf, depthOf}
 use Rattle.rle.specs.Report.{bytes, refused, sizeOf, refusalIn, formatIn, Decompresses}
 use Rattle.rle.specs.declared.report.Report.{Report}
+use Rattle.rle.proofs.Calls.{sized}
 use Rattle.tile_text.specs.Answer.{refusedWith, badTileText, tileTooLarge, limited, linesOf}
-use Rattle.tile_text.specs.Reply.{decoded, replyOf, fieldsOf, linesWith, Within, Answered, Replies}
-use Rattle.tile_text.specs.Written.{Writes}
+use Rattle.tile_text.specs.Reply.{decoded, replyOf, Replies}
+use Rattle.tile_text.specs.Contracts.{Writes, fieldsOf, countsOf, linesWith, Within, Answered}
 use Rattle.tile_text.specs.declared.parser.Parser.{Parser}
 use Rattle.tile_text.specs.declared.answer.Fields.{Fields}
 use Rattle.tile_text.proofs.Writing.{writes-as, from-start}
 
 unlike : {A : Type 0} → _≡_ {A = ℕ} 0 1 → A
-unlike e = absurd (let no : ⊥ = omega arith in no)
+unlike e = absurd (omega arith)
 
 -- ---- refusals before the stream
 
@@ -81,25 +81,6 @@ fit-space (fit f k) n given e h =
     let same : n ≡ f .total * f .bytes = cc in
     rw (le-ltb given (f .total * f .bytes) (subst (λ (m : ℕ). m ≤ given) same h))
 
-past-away : (t : Bool) (r : Refusal) (c : Checked) (n : ℕ) → bytes n ≡ sizeOf (pick t (away r) c) → pick t (away r) c ≡ c
-unfolding sizeOf
-past-away true r c n e = unlike cc
-past-away false r c n e = refl
-
--- sizes that are not refused have the depth's frame
-fit-frame : (b w h n : ℕ) → bytes n ≡ sizeOf (checked b w h) → checked b w h ≡ fitOf (depthOf b) w h
-unfolding checked
-fit-frame b w h n e =
-    let t₁ = past-away (leb 4 (depthIndex b)) (refusal 1 b 0) _ n e in
-    let e₂ = e ∙ ap sizeOf t₁ in
-    let t₂ = past-away (eqb w 0) (refusal 2 0 0) _ n e₂ in
-    let e₃ = e₂ ∙ ap sizeOf t₂ in
-    let t₃ = past-away (eqb h 0) (refusal 2 0 0) _ n e₃ in
-    let e₄ = e₃ ∙ ap sizeOf t₃ in
-    let t₄ = past-away (ltb 8192 w) (refusal 3 w h) _ n e₄ in
-    let e₅ = e₄ ∙ ap sizeOf t₄ in
-    t₁ ∙ t₂ ∙ t₃ ∙ t₄ ∙ past-away (ltb 8192 h) (refusal 3 w h) _ n e₅
-
 run-bytes : (f : Frame) (k : ℕ) (r : Run) → ofRun f k r .bytes ≡ f .bytes
 unfolding ofRun resultOf
 run-bytes f k (ended s) = refl
@@ -108,15 +89,15 @@ run-bytes f k (stopped r s) = refl
 
 fit-bytes : (b w h n : ℕ) (stream : List ℕ) → bytes n ≡ sizeOf (checked b w h) → result stream b w h .bytes ≡ depthOf b .bytes
 unfolding result ofChecked fitOf
-fit-bytes b w h n stream e = rw (fit-frame b w h n e) (run-bytes _ _ (decode _ stream))
+fit-bytes b w h n stream e = rw (sized b w h n e .checks) (run-bytes _ _ (decode _ stream))
 
-module _ (p : Parser) (stream before after : List ℕ) (n : ℕ) (r : Report) (within : Within p stream before n) where
+module _ (p : Parser) (stream before after : List ℕ) (r : Report) (within : Within p stream before) where
   decodes : Decompresses (take (p .count) stream) before after r (resultIn (length before) (take (p .count) stream) (p .bpp) (p .width) (p .height))
       → Decompresses (take (p .count) stream) before after r (decoded p stream)
   unfolding resultIn decoded result
   decodes d =
-      let g : n ≤ length before = omega (arith, within .small, within .space) in
-      rw (fit-space (checked (p .bpp) (p .width) (p .height)) n (length before) (within .size) g) at d
+      let g : within .size ≤ length before = omega (arith, within .small, within .space) in
+      rw (fit-space (checked (p .bpp) (p .width) (p .height)) (within .size) (length before) (within .picture) g) at d
 
   module _ (D : ℕ) (depth : D ≡ depthOf (p .bpp) .bytes) (same : length after ≡ length before)
       (d : Decompresses (take (p .count) stream) before after r (resultIn (length before) (take (p .count) stream) (p .bpp) (p .width) (p .height))) where
@@ -125,7 +106,7 @@ module _ (p : Parser) (stream before after : List ℕ) (n : ℕ) (r : Report) (w
     unfolding decoded
     painted-bytes =
         decodes d .painted
-        ∙ rw (fit-bytes (p .bpp) (p .width) (p .height) n (take (p .count) stream) (within .size), ← depth, ← decodes d .pixels)
+        ∙ rw (fit-bytes (p .bpp) (p .width) (p .height) (within .size) (take (p .count) stream) (within .picture), ← depth, ← decodes d .pixels)
 
     pub painted-fit : r .pixels * D ≤ 65536
     painted-fit =
@@ -151,7 +132,7 @@ module _ (p : Parser) (stream before after : List ℕ) (n : ℕ) (r : Report) (w
 -- ---- the lines
 
 pub same-lines : (e : Result) (before after : List ℕ) (v : Fields) → Answered e before after v → linesWith v after ≡ linesOf e
-unfolding linesWith linesOf
+unfolding linesWith countsOf linesOf
 same-lines e before after v a = rw (a .fields, a .target, take-append-seam)
 
 pub replied : {e : Result} {before after out out' : List ℕ} {v : Fields} {r : ℕ} → Answered e before after v

@@ -1,16 +1,30 @@
--- What a byte does to the state, case by case. Assumes nothing.
+-- What a byte does to the state and to the stream's array, case by case. Assumes nothing.
 use mathlib.Core.Path.{_≡_, refl}
-use mathlib.Core.Bool.{true, false}
-use Prim.Native.Nat.{ℕ, _-_, _<_, _≤_}
+use mathlib.Core.List.{List}
+use mathlib.Core.Bool.{Bool, true, false}
+use Prim.Native.Nat.{ℕ, _+_, _*_, _%_, _<_, _≤_}
 use native.Mathlib.Omega.{arith}
 use lib.Dec.{ltb, eqb}
-use borrow.Author.Tests.{eq-eqb, ne-eqb, lt-ltb, le-ltb, ltb-true, eqb-true}
-use Rattle.tile_text.specs.Parse.{keyByte, decimalValue, hexValue, bad, keyRead, withValue, endNumber, endStream, byteRead, goesOn, numberDigit, numberStep, streamStep, keyStep, step, endsByte}
+use lib.ListN.{set}
+use borrow.Author.Tests.{eq-eqb, ne-eqb, lt-ltb, le-ltb, ltb-true, eqb-true, eqb-false}
+use Rattle.tile_text.specs.Parse.{keyByte, decimalValue, hexValue, onLine, bad, keyRead, withValue, endNumber, byteRead, goesOn, numberDigit, numberStep, streamStep, keyStep, step, endsByte, stored}
 use Rattle.tile_text.specs.declared.parser.Parser.{Parser}
+use Rattle.tile_text.proofs.Tests.{by-test}
 use Rattle.tile_text.proofs.Keys.{past-lines}
-use Rattle.tile_text.proofs.Digits.{by-test}
+
+pub clash : {A : Type 0} {t : Bool} → t ≡ true → t ≡ false → A
+clash e f = let z : _≡_ {A = ℕ} 0 1 = cc in absurd (omega arith)
+
+-- a number that is begun and goes on isn't 0, and is below 10,000,000
+pub going-on : (p : Parser) → p .begun ≡ true → goesOn p ≡ true → (0 < p .value) × (p .value < 10_000_000)
+unfolding goesOn
+going-on p begun g =
+    by-test (λ u. u ≡ true → (0 < p .value) × (p .value < 10_000_000)) (eqb (p .value) 0) (λ _ no. clash no refl)
+    (λ other less. (omega (arith, eqb-false (p .value) 0 other), ltb-true _ _ less)) (simp begun at g)
 
 module _ (p : Parser) (b : ℕ) where
+  -- ---- the state
+
   pub step-key : 0 < keyByte (p .line) (p .place) → step p b ≡ keyStep p b
   unfolding step
   step-key h = rw (lt-ltb _ _ h)
@@ -40,8 +54,8 @@ module _ (p : Parser) (b : ℕ) where
       by-test Q (eqb b 10) (λ t. by-test Q (p .begun) (f (eqb-true _ _ t)) (λ _. h))
       (λ _. by-test Q (ltb (decimalValue b) 16) (λ t. by-test Q (goesOn p) (g (ltb-true _ _ t)) (λ _. h)) (λ _. h))
 
-  pub stream-cases : (Q : Parser → Type 0) → (b ≡ 10 → p .begun ≡ false → Q (endStream p))
-      → (hexValue b < 16 → p .begun ≡ true → Q (byteRead p)) → (hexValue b < 16 → p .begun ≡ false → Q (withValue true (hexValue b) p))
+  pub stream-cases : (Q : Parser → Type 0) → (b ≡ 10 → p .begun ≡ false → Q (onLine 4 p))
+      → (hexValue b < 16 → p .begun ≡ true → Q (byteRead p)) → (hexValue b < 16 → p .begun ≡ false → Q (withValue (hexValue b) p))
       → Q (bad p) → Q (streamStep p b)
   unfolding streamStep
   stream-cases Q f g h k =
@@ -50,23 +64,37 @@ module _ (p : Parser) (b : ℕ) where
 
   -- ---- which digits end a byte
 
-  pub ends-in-key : 0 < keyByte (p .line) (p .place) → endsByte p b ≡ false
+  pub ends-elsewhere : (p .line ≡ 3 → ⊥) → endsByte p b ≡ false
   unfolding endsByte
-  ends-in-key h = rw (lt-ltb _ _ h)
-
-  pub ends-in-number : p .line < 3 → endsByte p b ≡ false
-  unfolding endsByte
-  ends-in-number h =
-      let other : p .line ≡ 3 → ⊥ = (λ e. omega arith) in
-      rw (ne-eqb (p .line) 3 other) (by-test (λ t. t ≡ false) (ltb 0 (keyByte (p .line) (p .place))) (λ _. refl) (λ _. refl))
+  ends-elsewhere other = rw (ne-eqb (p .line) 3 other)
 
   pub ends-first : p .begun ≡ false → endsByte p b ≡ false
   unfolding endsByte
-  ends-first e =
-      rw e
-      (by-test (λ t. t ≡ false) (ltb 0 (keyByte (p .line) (p .place))) (λ _. refl)
-      (λ _. by-test (λ t. t ≡ false) (eqb (p .line) 3) (λ _. refl) (λ _. refl)))
+  ends-first e = rw e (by-test (λ t. t ≡ false) (eqb (p .line) 3) (λ _. refl) (λ _. refl))
 
-  pub ends-second : keyByte (p .line) (p .place) ≡ 0 → p .line ≡ 3 → p .begun ≡ true → hexValue b < 16 → endsByte p b ≡ true
+  pub ends-second : p .line ≡ 3 → p .begun ≡ true → hexValue b < 16 → endsByte p b ≡ true
   unfolding endsByte
-  ends-second k e f h = rw (k, eq-eqb _ _ e, f, lt-ltb _ _ h)
+  ends-second e f h = rw (eq-eqb _ _ e, f, lt-ltb _ _ h)
+
+  -- a digit that ends a byte is one
+  pub ending-digit : endsByte p b ≡ true → hexValue b < 16
+  unfolding endsByte
+  ending-digit =
+      by-test (λ t. t ≡ true → hexValue b < 16) (eqb (p .line) 3)
+      (λ _. by-test (λ t. t ≡ true → hexValue b < 16) (p .begun) (λ _ less. ltb-true _ _ less) (λ _ no. clash no refl))
+      (λ _ no. clash no refl)
+
+  -- ---- the stream's array
+
+  module _ (xs : List ℕ) where
+    pub stored-in : (d : ℕ) → endsByte p b ≡ true → d ≡ hexValue b → p .count < 8192 → set xs (p .count) (p .value % 16 * 16 + d) ≡ stored p xs b
+    unfolding stored
+    stored-in d e f h = rw (e, lt-ltb _ _ h, f)
+
+    pub stored-past : endsByte p b ≡ true → 8192 ≤ p .count → xs ≡ stored p xs b
+    unfolding stored
+    stored-past e h = rw (e, le-ltb _ _ h)
+
+    pub stored-not : endsByte p b ≡ false → xs ≡ stored p xs b
+    unfolding stored
+    stored-not e = rw e

@@ -1,6 +1,6 @@
 -- A text has one answer: it is the text of one tile at most. Assumes nothing.
 use mathlib.Core.Path.{_≡_, refl, _∙_, ap, sym}
-use mathlib.Core.List.{List, [], _∷_, _++_}
+use mathlib.Core.List.{List, [], _∷_, _++_, append-assoc}
 use Prim.Native.Nat.{ℕ, _+_, _/_, _%_, _<_}
 use native.Mathlib.Omega.{arith}
 use lib.ListN.{length, drop}
@@ -10,7 +10,7 @@ use Rattle.tile_text.specs.Text.{decimal, hexDigit, hexPairs, widthKey, 
 use Rattle.tile_text.specs.Answer.{answerOf, Answers, tile, noTile}
 use Rattle.tile_text.specs.Parse.{hexValue}
 use Rattle.tile_text.specs.declared.parser.Parser.{Parser}
-use Rattle.tile_text.proofs.Digits.{hex-value, no-feed}
+use Rattle.tile_text.proofs.Digits.{hex-value, not-line-feed}
 use Rattle.tile_text.proofs.Inverse.{complete}
 
 same-digit : (c d : ℕ) → c < 16 → d < 16 → hexDigit c ≡ hexDigit d → c ≡ d
@@ -19,8 +19,8 @@ same-digit c d h g e = sym (hex-value c h) ∙ ap hexValue e ∙ hex-value d g
 pairs-unique : (s u : List ℕ) → Bytes s → Bytes u → hexPairs s ++ (10 ∷ []) ≡ hexPairs u ++ (10 ∷ []) → s ≡ u
 unfolding hexPairs Bytes
 pairs-unique [] [] f g e = refl
-pairs-unique [] (y ∷ ys) f g e = let feed : hexDigit (y / 16) ≡ 10 = cc in absurd (no-feed (y / 16) feed)
-pairs-unique (x ∷ xs) [] f g e = let feed : hexDigit (x / 16) ≡ 10 = cc in absurd (no-feed (x / 16) feed)
+pairs-unique [] (y ∷ ys) f g e = let lf : hexDigit (y / 16) ≡ 10 = cc in absurd (not-line-feed (y / 16) lf)
+pairs-unique (x ∷ xs) [] f g e = let lf : hexDigit (x / 16) ≡ 10 = cc in absurd (not-line-feed (x / 16) lf)
 pairs-unique (x ∷ xs) (y ∷ ys) f g e =
     let h : hexDigit (x / 16) ≡ hexDigit (y / 16) = cc in
     let l : hexDigit (x % 16) ≡ hexDigit (y % 16) = cc in
@@ -37,10 +37,8 @@ after-same a b c e = sym (drop-append-seam a b) ∙ ap (drop (length a)) e ∙ d
 stream-unique : (w h b : ℕ) (s u : List ℕ) → Bytes s → Bytes u → textOf w h b s ≡ textOf w h b u → s ≡ u
 unfolding textOf line
 stream-unique w h b s u f g e =
-    let past-width = after-same (line widthKey (decimal w)) _ _ e in
-    let past-height = after-same (line heightKey (decimal h)) _ _ past-width in
-    let past-bpp = after-same (line bppKey (decimal b)) _ _ past-height in
-    pairs-unique s u f g (after-same streamKey _ _ past-bpp)
+    let same = after-same (line widthKey (decimal w) ++ line heightKey (decimal h) ++ line bppKey (decimal b)) _ _ e in
+    pairs-unique s u f g (after-same streamKey _ _ (sym (append-assoc streamKey (hexPairs s) (10 ∷ [])) ∙ same ∙ append-assoc streamKey (hexPairs u) (10 ∷ [])))
 
 tile-unique : (w h b w' h' b' : ℕ) (s u : List ℕ) → Tile w h b s → Tile w' h' b' u → textOf w h b s ≡ textOf w' h' b' u
     → answerOf w h b s ≡ answerOf w' h' b' u

@@ -7,8 +7,8 @@ use native.Mathlib.Numerals.{add-one}
 use native.Mathlib.Omega.{arith}
 use lib.ListN.{length, getD, take, drop, set, length-append}
 use lib.Seq.{sets, sets-eq, take-suc, length-take-le, take-all}
-use Rattle.tile_text.specs.Text.{hexDigit, hexPairs}
-use Rattle.tile_text.specs.Written.{Writes}
+use Rattle.tile_text.specs.Text.{hexDigit, hexPairs, line}
+use Rattle.tile_text.specs.Contracts.{Writes}
 use Rattle.tile_text.proofs.Decimals.{pairs-append}
 
 sets-append : (l : List ℕ) (i : ℕ) (xs ys : List ℕ) → sets l i (xs ++ ys) ≡ sets (sets l i xs) (i + length xs) ys
@@ -27,6 +27,11 @@ writes-append {a} {b} {c} {s} {t} {at} {k} {r} v w =
 
 pub writes-as : {a b s t : List ℕ} {at r : ℕ} → s ≡ t → Writes a at s b r → Writes a at t b r
 writes-as {a} {b} {s} {t} {at} {r} e w = subst (λ (l : List ℕ). Writes a at l b r) e w
+
+pub line-written : {a b c d key value : List ℕ} {at k l r : ℕ} → Writes a at key b k → Writes b k value c l → Writes c l (10 ∷ []) d r
+    → Writes a at (line key value) d r
+unfolding line
+line-written u v w = writes-append (writes-append u v) w
 
 -- a turn of a loop that copies s
 pub put-more : (l : List ℕ) (at : ℕ) (s : List ℕ) (i : ℕ) → i < length s

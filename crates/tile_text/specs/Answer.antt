@@ -1,6 +1,6 @@
--- The answer to a tile text: which text is refused with 9, which tile with 10, what the decoder answers to the others, and
--- the seven lines in which it is printed. `Answers` is what the program is for: a text is some tile's and has that tile's answer, or
--- it is no tile's and is refused.
+-- The answer to a tile text: which text is refused with 9, which tile with 10, what the decoder answers to the others, and the seven
+-- lines in which that is printed. `Answers` is what the program is for: a text that is some tile's has that tile's answer, and one that
+-- is no tile's is refused.
 use mathlib.Core.Path.{_≡_}
 use mathlib.Core.List.{List, [], _∷_, _++_}
 use Prim.Native.Nat.{ℕ}
@@ -29,18 +29,15 @@ unfoldable pub limited : Size → ℕ → Result → Result
 limited (refused r) streamBytes e = e
 limited (bytes n) streamBytes e = pick (ltb 65536 n) tileTooLarge (pick (ltb 8192 streamBytes) tileTooLarge e)
 
+-- the answer to a tile
 unfoldable pub answerOf : ℕ → ℕ → ℕ → List ℕ → Result
 answerOf w h b stream = limited (sizeOf (checked b w h)) (length stream) (result stream b w h)
 
 -- ---- the seven lines
 
--- `Rgb8`, `Rgb15`, `Rgb16`, `Rgb24` by the bits of a pixel, else `none`
+-- `Rgb` and the bits of a pixel, as in `Rgb8`; on a refusal, where the format is 0, `none`
 unfoldable pub formatName : ℕ → List ℕ
-formatName k =
-    pick (eqb k 8) (82 ∷ 103 ∷ 98 ∷ 56 ∷ [])
-    (pick (eqb k 15) (82 ∷ 103 ∷ 98 ∷ 49 ∷ 53 ∷ [])
-    (pick (eqb k 16) (82 ∷ 103 ∷ 98 ∷ 49 ∷ 54 ∷ [])
-    (pick (eqb k 24) (82 ∷ 103 ∷ 98 ∷ 50 ∷ 52 ∷ []) (110 ∷ 111 ∷ 110 ∷ 101 ∷ []))))
+formatName k = pick (eqb k 0) (110 ∷ 111 ∷ 110 ∷ 101 ∷ []) (82 ∷ 103 ∷ 98 ∷ decimal k)
 
 -- `format=`, `refusal=`, `first=`, `second=`, `orders=`, `pixels=`, `painted=`
 unfoldable pub formatKey : List ℕ
@@ -64,23 +61,15 @@ pixelsKey = 112 ∷ 105 ∷ 120 ∷ 101 ∷ 108 ∷ 115 ∷ 61 ∷ []
 unfoldable pub paintedKey : List ℕ
 paintedKey = 112 ∷ 97 ∷ 105 ∷ 110 ∷ 116 ∷ 101 ∷ 100 ∷ 61 ∷ []
 
--- the lines of the format, the refusal's number, its first and second, the orders and the pixels
-unfoldable pub counts : ℕ → ℕ → ℕ → ℕ → ℕ → ℕ → List ℕ
-counts format number first second orders pixels =
-    line formatKey (formatName format)
-    ++ (line refusalKey (decimal number)
-    ++ (line firstKey (decimal first)
-    ++ (line secondKey (decimal second) ++ (line ordersKey (decimal orders) ++ line pixelsKey (decimal pixels)))))
-
--- and of the painted bytes
-unfoldable pub lines : ℕ → ℕ → ℕ → ℕ → ℕ → ℕ → List ℕ → List ℕ
-lines format number first second orders pixels painted =
-    counts format number first second orders pixels ++ line paintedKey (hexPairs painted)
-
 unfoldable pub linesOf : Result → List ℕ
 linesOf e =
-    lines (e .format) (e .refusal .number) (e .refusal .first) (e .refusal .second) (e .orders) (length (e .painted))
-    (bytesOf (e .bytes) (e .painted))
+    line formatKey (formatName (e .format))
+    ++ line refusalKey (decimal (e .refusal .number))
+    ++ line firstKey (decimal (e .refusal .first))
+    ++ line secondKey (decimal (e .refusal .second))
+    ++ line ordersKey (decimal (e .orders))
+    ++ line pixelsKey (decimal (length (e .painted)))
+    ++ line paintedKey (hexPairs (bytesOf (e .bytes) (e .painted)))
 
 -- ---- the answer to a text
 

@@ -1,5 +1,5 @@
 pub mod Text
 pub mod Answer
 pub mod Parse
-pub mod Written
 pub mod Reply
+pub mod Contracts

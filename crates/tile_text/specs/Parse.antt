@@ -1,6 +1,6 @@
 -- Reading a tile text one byte at a time, by a state of a few numbers and an array for the stream's first 8,192 bytes: what `feed`
--- computes, for every state. `proofs/Inverse.antt` shows that it undoes `textOf`: a state reached from the start has read the whole
--- text exactly if the text is some tile's.
+-- computes, for every state. `proofs/Inverse.antt` shows that it undoes `textOf`: a state reached from the start has read a whole text
+-- exactly if the text is some tile's.
 use mathlib.Core.List.{List, [], _∷_}
 use mathlib.Core.Bool.{Bool, true, false}
 use Prim.Native.Nat.{ℕ, _+_, _-_, _*_, _%_}
@@ -29,19 +29,24 @@ hexValue b = pick (leb b 57) (decimalValue b) (pick (ltb b 97) 16 (pick (ltb 102
 abbrev pub start : Parser
 start = record { line = 0; place = 0; begun = false; value = 0; width = 0; height = 0; bpp = 0; count = 0 }
 
+-- the same on another line
+abbrev pub onLine : ℕ → Parser → Parser
+onLine l p =
+    record { line = l; place = p .place; begun = p .begun; value = p .value; width = p .width; height = p .height; bpp = p .bpp; count = p .count }
+
 -- no tile text, whatever comes
 unfoldable pub bad : Parser → Parser
-bad p =
-    record { line = 5; place = p .place; begun = p .begun; value = p .value; width = p .width; height = p .height; bpp = p .bpp; count = p .count }
+bad p = onLine 5 p
 
+-- a byte of a key is read
 abbrev pub keyRead : Parser → Parser
 keyRead p =
     record { line = p .line; place = p .place + 1; begun = p .begun; value = p .value; width = p .width; height = p .height; bpp = p .bpp; count = p .count }
 
--- a digit of a number or of a byte is read, and its value so far is v
-abbrev pub withValue : Bool → ℕ → Parser → Parser
-withValue begun v p =
-    record { line = p .line; place = p .place; begun = begun; value = v; width = p .width; height = p .height; bpp = p .bpp; count = p .count }
+-- a digit of a number or of a byte is read, and the value so far is v
+abbrev pub withValue : ℕ → Parser → Parser
+withValue v p =
+    record { line = p .line; place = p .place; begun = true; value = v; width = p .width; height = p .height; bpp = p .bpp; count = p .count }
 
 -- the next line starts
 abbrev pub nextLine : Parser → ℕ → ℕ → ℕ → Parser
@@ -54,42 +59,36 @@ endNumber p =
     pick (eqb (p .line) 0) (nextLine p (p .value) (p .height) (p .bpp))
     (pick (eqb (p .line) 1) (nextLine p (p .width) (p .value) (p .bpp)) (nextLine p (p .width) (p .height) (p .value)))
 
--- the stream's line ends, and with it the text
-abbrev pub endStream : Parser → Parser
-endStream p =
-    record { line = 4; place = p .place; begun = p .begun; value = p .value; width = p .width; height = p .height; bpp = p .bpp; count = p .count }
+-- the count of a stream's bytes, one more; it stays at 8,193
+unfoldable pub countMore : ℕ → ℕ
+countMore n = pick (ltb n 8193) (n + 1) n
 
--- a byte of the stream is read; the count stays at 8,193
+-- a byte of the stream is read
 unfoldable pub byteRead : Parser → Parser
 byteRead p =
-    record {
-      line = p .line;
-      place = p .place;
-      begun = false;
-      value = 0;
-      width = p .width;
-      height = p .height;
-      bpp = p .bpp;
-      count = pick (ltb (p .count) 8193) (p .count + 1) (p .count);
-    }
+    record { line = p .line; place = p .place; begun = false; value = 0; width = p .width; height = p .height; bpp = p .bpp; count = countMore (p .count) }
 
 -- a number goes on where no digit is read, or digits below 10,000,000 that aren't 0 alone
 unfoldable pub goesOn : Parser → Bool
 goesOn p = pick (p .begun) (pick (eqb (p .value) 0) false (ltb (p .value) 10_000_000)) true
 
+-- a digit of a number
 unfoldable pub numberDigit : Parser → ℕ → Parser
-numberDigit p d = withValue true (pick (p .begun) (p .value * 10 + d) d) p
+numberDigit p d = withValue (pick (p .begun) (p .value * 10 + d) d) p
 
+-- the byte b after a number's key
 unfoldable pub numberStep : Parser → ℕ → Parser
 numberStep p b =
     pick (eqb b 10) (pick (p .begun) (endNumber p) (bad p))
     (pick (ltb (decimalValue b) 16) (pick (goesOn p) (numberDigit p (decimalValue b)) (bad p)) (bad p))
 
+-- the byte b after the stream's key
 unfoldable pub streamStep : Parser → ℕ → Parser
 streamStep p b =
-    pick (eqb b 10) (pick (p .begun) (bad p) (endStream p))
-    (pick (ltb (hexValue b) 16) (pick (p .begun) (byteRead p) (withValue true (hexValue b) p)) (bad p))
+    pick (eqb b 10) (pick (p .begun) (bad p) (onLine 4 p))
+    (pick (ltb (hexValue b) 16) (pick (p .begun) (byteRead p) (withValue (hexValue b) p)) (bad p))
 
+-- the byte b in a key
 unfoldable pub keyStep : Parser → ℕ → Parser
 keyStep p b = pick (eqb b (keyByte (p .line) (p .place))) (keyRead p) (bad p)
 
@@ -101,9 +100,7 @@ step p b =
 
 -- the byte b is the second digit of a byte of the stream
 unfoldable pub endsByte : Parser → ℕ → Bool
-endsByte p b =
-    pick (ltb 0 (keyByte (p .line) (p .place))) false
-    (pick (eqb (p .line) 3) (pick (p .begun) (ltb (hexValue b) 16) false) false)
+endsByte p b = pick (eqb (p .line) 3) (pick (p .begun) (ltb (hexValue b) 16) false) false
 
 -- the stream's array after the byte b; from 8,192 bytes on nothing is stored
 unfoldable pub stored : Parser → List ℕ → ℕ → List ℕ

@@ -1,5 +1,5 @@
--- The tile text: four lines, `width=`, `height=`, `bpp=`, `stream=`, each ended by a line feed, and nothing after. The grammar is
--- given by printing: a text is good exactly if it is `textOf` of some tile, so whatever `textOf` never prints is a departure.
+-- The tile text: lines `width=`, `height=`, `bpp=`, `stream=`, in that order, each ended by a line feed, and nothing after. The grammar
+-- is given by printing: a text is good exactly if it is `textOf` of some tile, so whatever `textOf` never prints is a departure.
 use mathlib.Core.List.{List, [], _∷_, _++_}
 use Prim.Native.Nat.{ℕ, zero, suc, _+_, _/_, _%_, _<_}
 use lib.Dec.{ltb}
@@ -9,7 +9,7 @@ use Rattle.rle.specs.Pixels.{pick}
 unfoldable pub hexDigit : ℕ → ℕ
 hexDigit d = pick (ltb d 10) (48 + d) (87 + d)
 
--- n in decimal with no leading zero but 0 itself, for n of at most k digits
+-- n in decimal, no leading zero but 0 itself, for n of at most k digits
 unfoldable pub decimalIn : ℕ → ℕ → List ℕ
 decimalIn zero n = []
 decimalIn (suc k) n = pick (ltb n 10) ((48 + n) ∷ []) (decimalIn k (n / 10) ++ ((48 + n % 10) ∷ []))
@@ -38,11 +38,12 @@ streamKey = 115 ∷ 116 ∷ 114 ∷ 101 ∷ 97 ∷ 109 ∷ 61 ∷ []
 
 -- a line: its key, its value, a line feed
 unfoldable pub line : List ℕ → List ℕ → List ℕ
-line key value = key ++ (value ++ (10 ∷ []))
+line key value = key ++ value ++ (10 ∷ [])
 
+-- the text of a tile: its width, height and depth, and its stream
 unfoldable pub textOf : ℕ → ℕ → ℕ → List ℕ → List ℕ
 textOf w h b stream =
-    line widthKey (decimal w) ++ (line heightKey (decimal h) ++ (line bppKey (decimal b) ++ line streamKey (hexPairs stream)))
+    line widthKey (decimal w) ++ line heightKey (decimal h) ++ line bppKey (decimal b) ++ line streamKey (hexPairs stream)
 
 -- each is a byte
 unfoldable pub Bytes : List ℕ → Type 0

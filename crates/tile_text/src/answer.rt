@@ -4,8 +4,8 @@ ghost use Prim.Native.Nat.{_≤_};
 ghost use lib.ListN.{length};
 ghost use Rattle.rle.specs.Orders.{refusal};
 ghost use Rattle.rle.specs.Report.{formatIn, refusalIn};
-ghost use Rattle.tile_text.specs.Written.{Writes};
-ghost use Rattle.tile_text.specs.Reply.{decoded, replyOf, fieldsOf, countsOf, linesWith, Within, Answered, Replies, RepliesTo};
+ghost use Rattle.tile_text.specs.Reply.{decoded, replyOf, Replies, RepliesTo};
+ghost use Rattle.tile_text.specs.Contracts.{Writes, fieldsOf, countsOf, linesWith, Within, Answered};
 use crate::parser::Parser;
 use crate::parser::STREAM_LIMIT;
 use crate::parser::WHOLE;
@@ -46,47 +46,48 @@ fn refusal_fields(number: usize) -> Fields
     }
 }
 
-fn outcome_fields(o: Outcome, orders: usize, pixels: usize, painted: usize) -> Fields
-    ensures { λ r. ⌜ r ≡ fieldsOf (formatIn o) (refusalIn o) orders pixels painted ⌝ }
+fn outcome_fields(outcome: Outcome, orders: usize, pixels: usize, painted: usize) -> Fields
+    ensures { λ r. ⌜ r ≡ fieldsOf (formatIn outcome) (refusalIn outcome) orders pixels painted ⌝ }
 {
-    let n = rle::numbers_of(o);
+    let numbers = rle::numbers_of(outcome);
     Fields {
-        format: n.format,
-        refusal: n.refusal,
-        first: n.first,
-        second: n.second,
+        format: numbers.format,
+        refusal: numbers.refusal,
+        first: numbers.first,
+        second: numbers.second,
         orders,
         pixels,
         painted,
     }
 }
 
-fn put_counts(v: Fields, out: &mut [u8; 131328]) -> usize
-    ensures { λ r. ⌜ Writes (now (out .entry)) 0 (countsOf v) (now (out .exit)) r ⌝ }
-    ensures { λ r. ⌜ (r ≤ 153) × (length (now (out .entry)) ≡ 131328) ⌝ }
+// All lines but the last: at most 171 bytes, with 20 digits for each number.
+fn put_counts(fields: Fields, out: &mut [u8; 131328]) -> usize
+    ensures { λ r. ⌜ Writes (now (out .entry)) 0 (countsOf fields) (now (out .exit)) r ⌝ }
+    ensures { λ r. ⌜ (r ≤ 171) × (length (now (out .entry)) ≡ 131328) ⌝ }
 {
-    let a = put_format(v.format, out, 0);
-    let b = put_number(b"refusal=", v.refusal, out, a);
-    let c = put_number(b"first=", v.first, out, b);
-    let d = put_number(b"second=", v.second, out, c);
-    let e = put_number(b"orders=", v.orders, out, d);
-    put_number(b"pixels=", v.pixels, out, e)
+    let after_format = put_format(fields.format, out, 0);
+    let after_refusal = put_number(b"refusal=", fields.refusal, out, after_format);
+    let after_first = put_number(b"first=", fields.first, out, after_refusal);
+    let after_second = put_number(b"second=", fields.second, out, after_first);
+    let after_orders = put_number(b"orders=", fields.orders, out, after_second);
+    put_number(b"pixels=", fields.pixels, out, after_orders)
 }
 
 // The seven lines, the painted bytes from the first of the target on.
-fn put_lines(v: Fields, target: &[u8; 65536], out: &mut [u8; 131328]) -> usize
-    requires { ⌜ v .painted ≤ 65536 ⌝ }
-    ensures { λ r. ⌜ Writes (now (out .entry)) 0 (linesWith v (now (target .entry))) (now (out .exit)) r ⌝ }
+fn put_lines(fields: Fields, target: &[u8; 65536], out: &mut [u8; 131328]) -> usize
+    requires { ⌜ fields .painted ≤ 65536 ⌝ }
+    ensures { λ r. ⌜ Writes (now (out .entry)) 0 (linesWith fields (now (target .entry))) (now (out .exit)) r ⌝ }
     ensures { λ r. ⌜ (r ≤ 131328) × (length (now (out .entry)) ≡ 131328) ⌝ }
 {
-    let painted = v.painted;
-    let at = put_counts(v, out);
+    let painted = fields.painted;
+    let at = put_counts(fields, out);
     put_painted(target, painted, out, at)
 }
 
 // Decodes a tile that is within the limits.
-fn decode(p: Parser, stream: &[u8], target: &mut [u8], size: usize) -> Fields
-    requires { ⌜ Within p (now stream) (now target) size ⌝ }
+fn decode(p: Parser, stream: &[u8], target: &mut [u8]) -> Fields
+    requires { ⌜ Within p (now stream) (now target) ⌝ }
     ensures { λ r. ⌜ Answered (decoded p (now (stream .entry))) (now (target .entry)) (now (target .exit)) r ⌝ }
 {
     let count = p.count;
@@ -113,7 +114,7 @@ fn answer(p: Parser, stream: &[u8; 8192], target: &mut [u8; 65536]) -> Fields
             if STREAM_LIMIT < p.count {
                 return refusal_fields(10);
             }
-            decode(p, stream, target, n)
+            decode(p, stream, target)
         }
     }
 }
@@ -127,8 +128,8 @@ pub fn reply(
 ) -> usize
     ensures { λ r. ⌜ Replies (replyOf p (now (stream .entry))) (now (target .entry)) (now (target .exit)) (now (out .entry)) (now (out .exit)) r ⌝ }
 {
-    let v = answer(p, stream, target);
-    put_lines(v, target, out)
+    let fields = answer(p, stream, target);
+    put_lines(fields, target, out)
 }
 
 // The same for a text that stands in one slice.

@@ -4,7 +4,7 @@ ghost use mathlib.Core.Bool.{true, false};
 ghost use Prim.Native.Nat.{_<_};
 ghost use Rattle.tile_text.specs.Parse as parse;
 
-// The line being read, 0 to 3, or `WHOLE` or `NO_TILE`, and the place in its key.
+// The line being read, 0 to 3, or `WHOLE` or `BAD`, and the place in its key.
 // After the key: whether a digit is read, and the value of the digits. Then the numbers of the lines
 // that are read, and the stream's bytes so far, counted up to 8,193.
 pub struct Parser {
@@ -21,7 +21,7 @@ pub struct Parser {
 // In the place of a line: the text is read whole; it is no tile text.
 pub(crate) const WHOLE: usize = 4;
 
-const NO_TILE: usize = 5;
+const BAD: usize = 5;
 
 const LINE_FEED: usize = 10;
 
@@ -32,36 +32,7 @@ pub(crate) const STREAM_LIMIT: usize = 8192;
 const NO_DIGIT: usize = 16;
 
 // The keys, seven places each; 0: the key is read.
-const KEYS: [u8; 28] = [
-    b'w',
-    b'i',
-    b'd',
-    b't',
-    b'h',
-    b'=',
-    0,
-    b'h',
-    b'e',
-    b'i',
-    b'g',
-    b'h',
-    b't',
-    b'=',
-    b'b',
-    b'p',
-    b'p',
-    b'=',
-    0,
-    0,
-    0,
-    b's',
-    b't',
-    b'r',
-    b'e',
-    b'a',
-    b'm',
-    b'=',
-];
+const KEYS: [u8; 28] = *b"width=\0height=bpp=\0\0\0stream=";
 
 fn wide(x: u8) -> usize
     ensures { λ r. ⌜ (r ≡ x) × (r < 256) ⌝ }
@@ -127,11 +98,11 @@ pub fn start() -> Parser
     }
 }
 
-// No byte leads away from line 5, so one departure anywhere refuses the whole text.
+// No byte leads away from `BAD`, so one departure anywhere refuses the whole text.
 fn bad(mut p: Parser) -> Parser
     ensures { λ r. ⌜ r ≡ parse.bad p ⌝ }
 {
-    p.line = NO_TILE;
+    p.line = BAD;
     p
 }
 
@@ -270,9 +241,6 @@ fn step(mut p: Parser, b: usize) -> Parser
 fn ends_byte(p: Parser, b: usize) -> bool
     ensures { λ r. ⌜ r ≡ parse.endsByte p b ⌝ }
 {
-    if 0 < key_byte(p.line, p.place) {
-        return false;
-    }
     if p.line == 3 {
         if p.begun {
             return hex_value(b) < NO_DIGIT;
@@ -296,17 +264,16 @@ fn store(p: Parser, b: usize, stream: &mut [u8; 8192])
 }
 
 // The state after the bytes of `chunk`, with the stream's bytes among them stored in `stream`.
-pub fn feed(p: Parser, chunk: &[u8], stream: &mut [u8; 8192]) -> Parser
+pub fn feed(mut p: Parser, chunk: &[u8], stream: &mut [u8; 8192]) -> Parser
     ensures state { λ r. ⌜ r ≡ parse.fed p (now (chunk .entry)) ⌝ }
     ensures stream { λ _. ⌜ now (stream .exit) ≡ parse.fedInto p (now (stream .entry)) (now (chunk .entry)) ⌝ }
 {
-    let mut q = p;
     let mut i = 0;
     while i < chunk.len() {
         let b = wide(chunk[i]);
-        store(q, b, stream);
-        q = step(q, b);
+        store(p, b, stream);
+        p = step(p, b);
         i += 1;
     }
-    q
+    p
 }

@@ -5,16 +5,16 @@ ghost use Prim.Native.Nat.{_+_, _*_, _/_, _%_, _≤_, _<_};
 ghost use lib.ListN.{length, take};
 ghost use Rattle.tile_text.specs.Text.{hexDigit, decimal, hexPairs, line};
 ghost use Rattle.tile_text.specs.Answer.{formatName, formatKey, paintedKey};
-ghost use Rattle.tile_text.specs.Written.{Writes};
+ghost use Rattle.tile_text.specs.Contracts.{Writes};
 
-// The bytes of s from place `at` on; like each function here it answers the place after what it wrote.
-fn put_bytes(s: &[u8], out: &mut [u8], at: usize) -> usize
-    requires { ⌜ at + length (now s) ≤ length (now out) ⌝ }
-    ensures { λ r. ⌜ Writes (now (out .entry)) at (now (s .entry)) (now (out .exit)) r ⌝ }
+// Writes the bytes from place `at` on; like each function here it answers the place after what it wrote.
+fn put_bytes(bytes: &[u8], out: &mut [u8], at: usize) -> usize
+    requires { ⌜ at + length (now bytes) ≤ length (now out) ⌝ }
+    ensures { λ r. ⌜ Writes (now (out .entry)) at (now (bytes .entry)) (now (out .exit)) r ⌝ }
 {
     let mut i = 0;
-    while i < s.len() {
-        out[at + i] = s[i];
+    while i < bytes.len() {
+        out[at + i] = bytes[i];
         i += 1;
     }
     at + i
@@ -81,36 +81,31 @@ pub(crate) fn put_number(key: &[u8], n: usize, out: &mut [u8; 131328], at: usize
     put_bytes(b"\n", out, after_number)
 }
 
+// At most 23 bytes: three letters and 20 digits.
 fn put_name(format: usize, out: &mut [u8; 131328], at: usize) -> usize
-    requires { ⌜ at + 5 ≤ 131328 ⌝ }
+    requires { ⌜ at + 23 ≤ 131328 ⌝ }
     ensures { λ r. ⌜ Writes (now (out .entry)) at (formatName format) (now (out .exit)) r ⌝ }
-    ensures { λ r. ⌜ r ≤ at + 5 ⌝ }
+    ensures { λ r. ⌜ r ≤ at + 23 ⌝ }
 {
-    if format == 8 {
-        return put_bytes(b"Rgb8", out, at);
+    if format == 0 {
+        return put_bytes(b"none", out, at);
     }
-    if format == 15 {
-        return put_bytes(b"Rgb15", out, at);
-    }
-    if format == 16 {
-        return put_bytes(b"Rgb16", out, at);
-    }
-    if format == 24 {
-        return put_bytes(b"Rgb24", out, at);
-    }
-    put_bytes(b"none", out, at)
+    let after_letters = put_bytes(b"Rgb", out, at);
+    put_decimal(format, out, after_letters)
 }
 
+// The line of the format: its key, the name and a line feed.
 pub(crate) fn put_format(format: usize, out: &mut [u8; 131328], at: usize) -> usize
-    requires { ⌜ at + 13 ≤ 131328 ⌝ }
+    requires { ⌜ at + 31 ≤ 131328 ⌝ }
     ensures { λ r. ⌜ Writes (now (out .entry)) at (line formatKey (formatName format)) (now (out .exit)) r ⌝ }
-    ensures { λ r. ⌜ (r ≤ at + 13) × (length (now (out .entry)) ≡ 131328) ⌝ }
+    ensures { λ r. ⌜ (r ≤ at + 31) × (length (now (out .entry)) ≡ 131328) ⌝ }
 {
     let after_key = put_bytes(b"format=", out, at);
     let after_name = put_name(format, out, after_key);
     put_bytes(b"\n", out, after_name)
 }
 
+// The line of the painted bytes: the first n.
 pub(crate) fn put_painted(bytes: &[u8], n: usize, out: &mut [u8; 131328], at: usize) -> usize
     requires { ⌜ (n ≤ length (now bytes)) × (at + 2 * n + 9 ≤ 131328) ⌝ }
     ensures { λ r. ⌜ Writes (now (out .entry)) at (line paintedKey (hexPairs (take n (now (bytes .entry))))) (now (out .exit)) r ⌝ }

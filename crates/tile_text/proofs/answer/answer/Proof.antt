@@ -36,7 +36,7 @@ returns-3 : tie.Need-returns-3
 returns-3 c = answered-stream _ _ _ _ (c .before .before .before .before .before .before .before .before .if1 .left) _ (rw (c .before .before .before .before .before .size2 .given .1) at (c .before .before .before .before .before .before .before .picture-size .ensures)) (c .before .before .before .if2 .left) (c .before .if3 .taken) (c .refusal-fields3 .ensures)
 
 decode-requires : tie.Need-decode-requires
-decode-requires c κs = record { count = omega (arith, c .before .decode-arg .given .0); size = rw (c .before .before .before .before .before .before .size2 .given .1) at (c .before .before .before .before .before .before .before .before .picture-size .ensures); small = c .before .before .before .before .if2 .left; space = c .decode-arg2 .given .0 .1 }
+decode-requires c κs = record { size = _; picture = rw (c .before .before .before .before .before .before .size2 .given .1) at (c .before .before .before .before .before .before .before .before .picture-size .ensures); small = c .before .before .before .before .if2 .left; count = omega (arith, c .before .decode-arg .given .0); space = c .decode-arg2 .given .0 .1 }
 
 returns-4 : tie.Need-returns-4
 returns-4 c = answered-refused _ _ _ _ (c .before .before .before .before .before .if1 .left) _ (rw (c .before .before .size .given .1) at (c .before .before .before .before .picture-size .ensures)) (c .outcome-fields .ensures)

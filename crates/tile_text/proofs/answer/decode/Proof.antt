@@ -17,7 +17,7 @@ bytes-per-pixel-requires : tie.Need-bytes-per-pixel-requires
 bytes-per-pixel-requires c κs = search needs
 
 mul-painted : tie.Need-mul-painted
-mul-painted c = omega (arith, painted-fit _ _ _ _ _ _ (c .before .before .before .before .before .before .before .before .before .pre) _ (c .before .bytes-per-pixel .ensures) (c .before .before .before .before .decompress .kept .1 .0) (c .before .before .before .before .decompress .ensures))
+mul-painted c = omega (arith, painted-fit _ _ _ _ _ (c .before .before .before .before .before .before .before .before .before .pre) _ (c .before .bytes-per-pixel .ensures) (c .before .before .before .before .decompress .kept .1 .0) (c .before .before .before .before .decompress .ensures))
 
 outcome-fields-requires : tie.Need-outcome-fields-requires
 outcome-fields-requires c κs = search needs
@@ -26,7 +26,7 @@ same-length : tie.Need-same-length
 same-length c = search needs
 
 returns : tie.Need-returns
-returns c = decode-answered _ _ _ _ _ _ (c .before .before .before .before .before .before .before .before .before .before .pre) _ (c .before .before .bytes-per-pixel .ensures) (c .before .before .before .before .before .decompress .kept .1 .0) (c .before .before .before .before .before .decompress .ensures) _ (c .outcome-fields .ensures)
+returns c = decode-answered _ _ _ _ _ (c .before .before .before .before .before .before .before .before .before .before .pre) _ (c .before .before .bytes-per-pixel .ensures) (c .before .before .before .before .before .decompress .kept .1 .0) (c .before .before .before .before .before .decompress .ensures) _ (c .outcome-fields .ensures)
 
 pub decode-spec : {M : Type 1} → statement M
 decode-spec =

@@ -1,7 +1,7 @@
 -- `put_counts` meets its contract: the lines, one after the other. Assumes nothing.
 use Rattle.tile_text.proofs.Writing.{writes-append}
-use Rattle.tile_text.specs.Answer.{counts, refusalKey, firstKey, secondKey, ordersKey, pixelsKey}
-use Rattle.tile_text.specs.Reply.{countsOf}
+use Rattle.tile_text.specs.Answer.{refusalKey, firstKey, secondKey, ordersKey, pixelsKey}
+use Rattle.tile_text.specs.Contracts.{countsOf}
 use borrow.Author.Needs.{needs}
 use native.Mathlib.Omega.{arith}
 use Rattle.tile_text.proofs.answer.put_counts.Statement.{statement}
@@ -41,14 +41,17 @@ put-number-requires-5 : tie.Need-put-number-requires-5
 put-number-requires-5 c κs = search needs
 
 returns : tie.Need-returns
-unfolding countsOf counts refusalKey firstKey secondKey ordersKey pixelsKey
-returns c = (
-  writes-append (c .before .before .before .before .before .before .before .before .before .before .before .before .before .before .before .put-format .ensures .0)
-      (writes-append (c .before .before .before .before .before .before .before .before .before .before .before .before .put-number .ensures .0)
-      (writes-append (c .before .before .before .before .before .before .before .before .before .put-number2 .ensures .0)
-      (writes-append (c .before .before .before .before .before .before .put-number3 .ensures .0) (writes-append (c .before .before .before .put-number4 .ensures .0) (c .put-number5 .ensures .0))))),
-  (omega arith, c .before .before .before .before .before .before .before .before .before .before .before .before .before .before .before .put-format .ensures .1 .1),
-)
+unfolding countsOf refusalKey firstKey secondKey ordersKey pixelsKey
+returns c =
+    let format = c .before .before .before .before .before .before .before .before .before .before .before .before .before .before .before .put-format .ensures in (
+      writes-append (writes-append (writes-append (writes-append (writes-append (format .0)
+          (c .before .before .before .before .before .before .before .before .before .before .before .before .put-number .ensures .0))
+          (c .before .before .before .before .before .before .before .before .before .put-number2 .ensures .0))
+          (c .before .before .before .before .before .before .put-number3 .ensures .0))
+          (c .before .before .before .put-number4 .ensures .0))
+          (c .put-number5 .ensures .0),
+      (omega arith, format .1 .1),
+    )
 
 pub put-counts-spec : {M : Type 1} → statement M
 put-counts-spec =

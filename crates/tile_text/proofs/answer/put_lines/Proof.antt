@@ -1,7 +1,6 @@
 -- `put_lines` meets its contract: the counts, and then the painted bytes. Assumes nothing.
 use Rattle.tile_text.proofs.Writing.{writes-append}
-use Rattle.tile_text.specs.Answer.{lines}
-use Rattle.tile_text.specs.Reply.{linesWith, countsOf}
+use Rattle.tile_text.specs.Contracts.{linesWith}
 use borrow.Author.Needs.{needs}
 use Rattle.tile_text.proofs.answer.put_lines.Statement.{statement}
 use Rattle.tile_text.proofs.answer.put_lines.Tie as tie
@@ -13,7 +12,7 @@ put-painted-requires : tie.Need-put-painted-requires
 put-painted-requires c κs = search needs
 
 returns : tie.Need-returns
-unfolding linesWith lines countsOf
+unfolding linesWith
 returns c = (writes-append (c .before .before .before .put-counts .ensures .0) (c .put-painted .ensures .0), (c .put-painted .ensures .1, c .before .before .before .put-counts .ensures .1 .1))
 
 pub put-lines-spec : {M : Type 1} → statement M

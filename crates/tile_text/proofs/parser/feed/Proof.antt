@@ -4,17 +4,17 @@ use Prim.Native.Nat.{_≤_, _-_}
 use lib.ListN.{length, take}
 use lib.Seq.{take-all}
 use Rattle.tile_text.specs.Parse.{fed, fedInto, step}
-use Rattle.tile_text.proofs.Fold.{fed-more, into-more}
+use Rattle.tile_text.proofs.Chunks.{fed-more, into-more}
 use borrow.Author.Needs.{needs}
 use native.Mathlib.Omega.{arith}
 use Rattle.tile_text.proofs.parser.feed.Statement.{statement}
 use Rattle.tile_text.proofs.parser.feed.Tie as tie
 
 abbrev Inv-loop : tie.InvT-loop
-Inv-loop chunk stream₀ q₀ i₀ stream q i = (i ≤ length chunk) × (q ≡ fed q₀ (take i chunk)) × (stream ≡ fedInto q₀ stream₀ (take i chunk))
+Inv-loop p₀ chunk stream₀ i₀ p stream i = (i ≤ length chunk) × (p ≡ fed p₀ (take i chunk)) × (stream ≡ fedInto p₀ stream₀ (take i chunk))
 
 abbrev μ-loop : tie.MeasureT-loop
-μ-loop chunk stream₀ q₀ i₀ stream q i = length chunk - i
+μ-loop p₀ chunk stream₀ i₀ p stream i = length chunk - i
 
 loop-holds : tie.Need-loop-holds Inv-loop μ-loop
 unfolding fed fedInto

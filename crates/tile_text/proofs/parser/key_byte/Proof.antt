@@ -1,6 +1,6 @@
 -- `key_byte` meets its contract: the table has the keys. Assumes nothing.
 use mathlib.Core.Path.{sym, _∙_}
-use Rattle.tile_text.proofs.Keys.{past-lines, past-key, key-in-table}
+use Rattle.tile_text.proofs.Keys.{past-lines, past-seven, key-in-table}
 use borrow.Author.Needs.{needs}
 use Rattle.tile_text.proofs.parser.key_byte.Statement.{statement}
 use Rattle.tile_text.proofs.parser.key_byte.Tie as tie
@@ -9,7 +9,7 @@ returns : tie.Need-returns
 returns c = sym (past-lines _ _ (c .if1 .taken))
 
 returns-2 : tie.Need-returns-2
-returns-2 c = sym (past-key _ _ (c .if2 .taken))
+returns-2 c = sym (past-seven _ _ (c .if2 .taken))
 
 mul-wide : tie.Need-mul-wide
 mul-wide c = search needs

@@ -1,7 +1,7 @@
 -- `step` meets its contract: its tests are the definition's. Assumes nothing.
 use borrow.Author.Tests.{eq-eqb, ne-eqb, lt-ltb, le-ltb}
 use Rattle.tile_text.specs.Parse.{step, keyStep}
-use Rattle.tile_text.proofs.Keys.{in-key}
+use Rattle.tile_text.proofs.Keys.{in-seven}
 use borrow.Author.Needs.{needs}
 use native.Mathlib.Omega.{arith}
 use Rattle.tile_text.proofs.parser.step.Statement.{statement}
@@ -11,7 +11,7 @@ key-byte-requires : tie.Need-key-byte-requires
 key-byte-requires c κs = search needs
 
 add-p : tie.Need-add-p
-add-p c = omega (arith, in-key _ _ (rw (c .before .before .before .key-byte .ensures) at (c .before .before .if1 .taken)))
+add-p c = omega (arith, in-seven _ _ (rw (c .before .before .before .key-byte .ensures) at (c .before .before .if1 .taken)))
 
 returns : tie.Need-returns
 unfolding step keyStep

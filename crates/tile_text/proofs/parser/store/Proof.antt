@@ -1,7 +1,7 @@
 -- `store` meets its contract: its tests are the definition's, and a digit is below 16. Assumes nothing.
 use mathlib.Core.Path.{sym, _∙_, subst}
 use Prim.Native.Nat.{ℕ, _<_}
-use Rattle.tile_text.proofs.Fold.{ending-digit, stored-in, stored-past, stored-not}
+use Rattle.tile_text.proofs.Steps.{ending-digit, stored-in, stored-past, stored-not}
 use borrow.Author.Needs.{needs}
 use native.Mathlib.Omega.{arith}
 use Rattle.tile_text.proofs.parser.store.Statement.{statement}

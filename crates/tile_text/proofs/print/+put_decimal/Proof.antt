@@ -43,7 +43,7 @@ returns-2 : (t : ℕ) → lts.Need-returns-2 (put-digit-reads.Asked, put-digit-r
 returns-2 t c =
     let a = c .before .before .before .before .before in
     let fits : a .args .n < 10 ^ 20 = omega arith in
-    writes-as (sym (decimal-more (a .args .n) (c .before .before .before .before .if1 .left) fits))
+    writes-as (sym (decimal-more (a .args .n) fits (c .before .before .before .before .if1 .left)))
     (writes-append (c .before .before .put-decimal .ensures) (c .put-digit2 .ensures))
 
 pub +put-decimal-spec : {M : Type 1} → statement M

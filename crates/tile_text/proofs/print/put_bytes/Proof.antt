@@ -11,10 +11,10 @@ use Rattle.tile_text.proofs.print.put_bytes.Statement.{statement}
 use Rattle.tile_text.proofs.print.put_bytes.Tie as tie
 
 abbrev Inv-loop : tie.InvT-loop
-Inv-loop s out₀ at i₀ out i = (i ≤ length s) × (length out ≡ length out₀) × (out ≡ sets out₀ at (take i s))
+Inv-loop bytes out₀ at i₀ out i = (i ≤ length bytes) × (length out ≡ length out₀) × (out ≡ sets out₀ at (take i bytes))
 
 abbrev μ-loop : tie.MeasureT-loop
-μ-loop s out₀ at i₀ out i = length s - i
+μ-loop bytes out₀ at i₀ out i = length bytes - i
 
 loop-holds : tie.Need-loop-holds Inv-loop μ-loop
 loop-holds c = (search needs, refl, refl)
@@ -40,7 +40,7 @@ loop-again c =
     let l = c .before .before .loop in (
       omega arith,
       simp length-set (l .inv .1),
-      ap (λ (o : List ℕ). set o (a .at + l .i) (getD (a .s .now) (l .i) 0)) (l .inv .2) ∙ put-more (a .out .now) (a .at) (a .s .now) (l .i) (c .before .loop-test .taken),
+      ap (λ (o : List ℕ). set o (a .at + l .i) (getD (a .bytes .now) (l .i) 0)) (l .inv .2) ∙ put-more (a .out .now) (a .at) (a .bytes .now) (l .i) (c .before .loop-test .taken),
     )
 
 add-result : tie.Need-add-result Inv-loop μ-loop

@@ -1,6 +1,5 @@
 -- `put_format` meets its contract: the key, the name and a line feed, one after the other. Assumes nothing.
-use Rattle.tile_text.proofs.Writing.{writes-append}
-use Rattle.tile_text.specs.Text.{line}
+use Rattle.tile_text.proofs.Writing.{line-written}
 use Rattle.tile_text.specs.Answer.{formatKey}
 use borrow.Author.Needs.{needs}
 use native.Mathlib.Omega.{arith}
@@ -23,10 +22,10 @@ put-bytes-requires-2 : tie.Need-put-bytes-requires-2
 put-bytes-requires-2 c κs = search needs
 
 returns : tie.Need-returns
-unfolding line formatKey
+unfolding formatKey
 returns c =
     let w = c .put-bytes2 .ensures in (
-      writes-append (c .before .before .before .before .before .put-bytes .ensures) (writes-append (c .before .before .before .put-name .ensures .0) w),
+      line-written (c .before .before .before .before .before .put-bytes .ensures) (c .before .before .before .put-name .ensures .0) w,
       (omega (arith, w .place), c .before .before .before .before .before .before .put-bytes-arg2 .given .0 .1),
     )
 

@@ -1,7 +1,6 @@
 -- `put_number` meets its contract: the key, the digits and a line feed, one after the other. Assumes nothing.
-use Rattle.tile_text.proofs.Writing.{writes-append}
+use Rattle.tile_text.proofs.Writing.{line-written}
 use Rattle.tile_text.proofs.Decimals.{decimal-length}
-use Rattle.tile_text.specs.Text.{line}
 use borrow.Author.Needs.{needs}
 use native.Mathlib.Omega.{arith}
 use Rattle.tile_text.proofs.print.put_number.Statement.{statement}
@@ -20,11 +19,10 @@ put-bytes-requires-2 : tie.Need-put-bytes-requires-2
 put-bytes-requires-2 c κs = omega (arith, c .before .before .put-decimal .ensures .place, c .before .before .before .before .put-bytes .ensures .place, decimal-length (c .before .before .before .before .before .before .before .args .n))
 
 returns : tie.Need-returns
-unfolding line
 returns c =
     let w = c .put-bytes2 .ensures in
     let digits = c .before .before .before .put-decimal .ensures in (
-      writes-append (c .before .before .before .before .before .put-bytes .ensures) (writes-append digits w),
+      line-written (c .before .before .before .before .before .put-bytes .ensures) digits w,
       omega (arith, w .place, digits .place, c .before .before .before .before .before .put-bytes .ensures .place, decimal-length (c .before .before .before .before .before .before .before .before .args .n)),
     )
 

@@ -1,9 +1,8 @@
 -- `put_painted` meets its contract: the key, the pairs and a line feed, one after the other. Assumes nothing.
-use Rattle.tile_text.proofs.Writing.{writes-append}
+use Rattle.tile_text.proofs.Writing.{line-written}
 use Rattle.tile_text.proofs.Decimals.{pairs-length}
 use lib.ListN.{take}
 use lib.Seq.{length-take-le}
-use Rattle.tile_text.specs.Text.{line}
 use Rattle.tile_text.specs.Answer.{paintedKey}
 use borrow.Author.Needs.{needs}
 use native.Mathlib.Omega.{arith}
@@ -29,12 +28,12 @@ put-bytes-requires-2 c κs =
     omega (arith, l, length-take-le (a .n) (a .bytes .now) (c .before .before .before .before .before .before .before .before .pre .0), c .before .before .put-pairs .ensures .place, c .before .before .before .before .put-bytes .ensures .place, c .put-bytes-arg4 .given .0 .1)
 
 returns : tie.Need-returns
-unfolding line paintedKey
+unfolding paintedKey
 returns c =
     let a = c .before .before .before .before .before .before .before .before .before .args in
     let l = pairs-length (take (a .n) (a .bytes .now)) in
     let w = c .put-bytes2 .ensures in (
-      writes-append (c .before .before .before .before .before .put-bytes .ensures) (writes-append (c .before .before .before .put-pairs .ensures) w),
+      line-written (c .before .before .before .before .before .put-bytes .ensures) (c .before .before .before .put-pairs .ensures) w,
       omega (arith, l, length-take-le (a .n) (a .bytes .now) (c .before .before .before .before .before .before .before .before .before .pre .0), w .place, c .before .before .before .put-pairs .ensures .place, c .before .before .before .before .before .put-bytes .ensures .place),
     )
 

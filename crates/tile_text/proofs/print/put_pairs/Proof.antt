@@ -3,7 +3,7 @@ use mathlib.Core.Path.{_≡_, subst}
 use Prim.Native.Nat.{ℕ, _<_, _≤_, _-_, _+_, _*_}
 use lib.ListN.{take, length}
 use Rattle.tile_text.specs.Text.{hexPairs}
-use Rattle.tile_text.specs.Written.{Writes}
+use Rattle.tile_text.specs.Contracts.{Writes}
 use Rattle.tile_text.proofs.Writing.{writes-none, pairs-more}
 use borrow.Author.Needs.{needs}
 use native.Mathlib.Omega.{arith}

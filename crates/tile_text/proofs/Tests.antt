@@ -1,0 +1,31 @@
+-- Tests: what holds by each way of a test, and a fact of every number below a bound by one test that antt computes. Assumes nothing.
+use mathlib.Core.Path.{_≡_, refl, subst}
+use mathlib.Core.Bool.{Bool, true, false}
+use Prim.Native.Nat.{ℕ, zero, suc, _<_, _≤_}
+use native.Mathlib.Omega.{arith}
+use native.Mathlib.Decide.{decLt}
+use lib.Dec.{T}
+use Rattle.rle.specs.Pixels.{pick}
+
+-- what holds of each way of a test holds of the choice
+pub by-test : {A : Type 0} (Q : A → Type 0) (t : Bool) {a b : A} → (t ≡ true → Q a) → (t ≡ false → Q b) → Q (pick t a b)
+by-test Q true f g = f refl
+by-test Q false f g = g refl
+
+pub by-less : {A : Type 0} (m n : ℕ) → (m < n → A) → (n ≤ m → A) → A
+by-less m n f g = elim (decLt m n) [ yes h ↦ f h | no h ↦ g (omega arith) ]
+
+-- the test passes at each number below n
+abbrev pub below : (ℕ → Bool) → ℕ → Bool
+below f zero = true
+below f (suc n) = pick (f n) (below f n) false
+
+both : (t rest : Bool) → T (pick t rest false) → T t × T rest
+both true rest h = (tt, h)
+both false rest h = absurd h
+
+pub at : (f : ℕ → Bool) (n : ℕ) → T (below f n) → (k : ℕ) → k < n → T (f k)
+at f zero t k h = absurd (omega arith)
+at f (suc n) t k h =
+    let p = both (f n) (below f n) t in
+    by-less k n (λ low. at f n (p .1) k low) (λ high. let e : n ≡ k = omega arith in subst (λ (m : ℕ). T (f m)) e (p .0))
