@@ -16,6 +16,7 @@ use Rattle.tile_text.proofs.Decimals.{in-small, in-more}
 use Rattle.tile_text.proofs.Steps.{step-number, step-stream}
 use Rattle.tile_text.proofs.Chunks.{fed-append}
 
+-- one text after the other
 then : (p : Parser) (t u : List ℕ) {q r : Parser} → fed p t ≡ q → fed q u ≡ r → fed p (t ++ u) ≡ r
 then p t u e f = fed-append p t u ∙ ap (λ (q : Parser). fed q u) e ∙ f
 
@@ -86,18 +87,18 @@ unfolding streamStep
 stream-digit p d k l h =
     step-stream p (hexDigit d) k l ∙ rw (ne-eqb (hexDigit d) 10 (not-line-feed d), hex-value d h, lt-ltb d 16 h)
 
-module _ (w h b : ℕ) where
-  key-over : keyByte 3 7 ≡ 0
-  unfolding keyByte keys streamKey
-  key-over = refl
+stream-key-over : keyByte 3 7 ≡ 0
+unfolding keyByte keys streamKey
+stream-key-over = refl
 
+module _ (w h b : ℕ) where
   pairs-read : (n : ℕ) (s : List ℕ) → Bytes s → fed (atPlace 3 7 w h b n) (hexPairs s) ≡ atPlace 3 7 w h b (countAll n s)
   unfolding fed hexPairs countAll Bytes byteRead
   pairs-read n [] g = refl
   pairs-read n (x ∷ xs) g =
       let high : x / 16 < 16 = omega (arith, g .0) in
-      ap (λ (p : Parser). fed (step p (hexDigit (x % 16))) (hexPairs xs)) (stream-digit (atPlace 3 7 w h b n) (x / 16) key-over refl high)
-      ∙ ap (λ (p : Parser). fed p (hexPairs xs)) (stream-digit (withValue (x / 16) (atPlace 3 7 w h b n)) (x % 16) key-over refl (omega arith))
+      ap (λ (p : Parser). fed (step p (hexDigit (x % 16))) (hexPairs xs)) (stream-digit (atPlace 3 7 w h b n) (x / 16) stream-key-over refl high)
+      ∙ ap (λ (p : Parser). fed p (hexPairs xs)) (stream-digit (withValue (x / 16) (atPlace 3 7 w h b n)) (x % 16) stream-key-over refl (omega arith))
       ∙ pairs-read _ xs (g .1)
 
   stream-read : (s : List ℕ) → Bytes s → fed (atPlace 3 0 w h b 0) (line streamKey (hexPairs s)) ≡ atPlace 4 7 w h b (countAll 0 s)
@@ -105,7 +106,7 @@ module _ (w h b : ℕ) where
   stream-read s g =
       let q = atPlace 3 0 w h b 0 in
       then q (streamKey ++ hexPairs s) (10 ∷ []) (then q streamKey (hexPairs s) refl (pairs-read 0 s g))
-      (step-stream (atPlace 3 7 w h b (countAll 0 s)) 10 key-over refl)
+      (step-stream (atPlace 3 7 w h b (countAll 0 s)) 10 stream-key-over refl)
 
 -- ---- the text
 

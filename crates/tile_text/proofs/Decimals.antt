@@ -4,7 +4,8 @@ use mathlib.Core.List.{List, [], _∷_, _++_}
 use Prim.Native.Nat.{ℕ, zero, suc, _+_, _*_, _/_, _%_, _^_, _<_, _≤_}
 use native.Mathlib.Nat.{pow-suc}
 use native.Mathlib.Omega.{arith}
-use lib.ListN.{length, length-append}
+use lib.ListN.{length, take, length-append}
+use lib.Seq.{length-take-le}
 use borrow.Author.Tests.{lt-ltb, le-ltb}
 use Rattle.tile_text.specs.Text.{decimalIn, decimal, hexDigit, hexPairs}
 use Rattle.tile_text.proofs.Tests.{by-less}
@@ -62,7 +63,10 @@ unfolding hexPairs
 pairs-append [] ys = refl
 pairs-append (x ∷ xs) ys = ap (λ (l : List ℕ). hexDigit (x / 16) ∷ hexDigit (x % 16) ∷ l) (pairs-append xs ys)
 
-pub pairs-length : (xs : List ℕ) → length (hexPairs xs) ≡ 2 * length xs
+pairs-length : (xs : List ℕ) → length (hexPairs xs) ≡ 2 * length xs
 unfolding hexPairs
 pairs-length [] = refl
 pairs-length (x ∷ xs) = omega (arith, pairs-length xs)
+
+pub taken-length : (n : ℕ) (xs : List ℕ) → n ≤ length xs → length (hexPairs (take n xs)) ≡ 2 * n
+taken-length n xs h = pairs-length (take n xs) ∙ rw (length-take-le n xs h)

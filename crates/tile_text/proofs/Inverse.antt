@@ -20,33 +20,22 @@ use Rattle.tile_text.specs.declared.parser.Parser.{Parser}
 use Rattle.tile_text.proofs.Tests.{by-less}
 use Rattle.tile_text.proofs.Chunks.{joined, fedChunks, intoChunks, chunks-fed, chunks-into}
 use Rattle.tile_text.proofs.Complete.{text-read, atPlace, countAll}
-use Rattle.tile_text.proofs.Sound.{inKey, inNumber, inStream, atEnd, Reads, failed, going, text-reads}
+use Rattle.tile_text.proofs.Sound.{inKey, inNumber, inStream, atEnd, Kept, Reads, failed, going, text-reads}
 
 -- ---- the two directions
 
 -- a tile, as the parser and the array have it
 pub record TileRead (t : List ℕ) (p : Parser) (xs : List ℕ) : Type 0 where
   pub stream : List ℕ
-  pub tile : Tile (p .width) (p .height) (p .bpp) stream
+  pub kept : Kept p stream xs
   pub text : t ≡ textOf (p .width) (p .height) (p .bpp) stream
-  pub count : p .count ≡ min 8193 (length stream)
-  pub space : length xs ≡ 8192
-  pub held : (i : ℕ) → i < 8192 → i < length stream → getD xs i 0 ≡ getD stream i 0
 
 ended : (t : List ℕ) (p : Parser) (xs : List ℕ) → p .line ≡ 4 → Reads t p xs → TileRead t p xs
 ended t p xs e (failed f) = absurd (omega arith)
 ended t p xs e (going s k (inKey l none z f)) = absurd (omega arith)
 ended t p xs e (going s k (inNumber l over small z f)) = absurd (omega arith)
 ended t p xs e (going s k (inStream l over small f)) = absurd (omega arith)
-ended t p xs e (going s k (atEnd l f)) =
-    record {
-      stream = s;
-      tile = record { width = k .width; height = k .height; bpp = k .bpp; bytes = k .bytes };
-      text = f;
-      count = k .count;
-      space = k .space;
-      held = k .held;
-    }
+ended t p xs e (going s k (atEnd l f)) = record { stream = s; kept = k; text = f }
 
 -- a text that is read whole is a tile's
 pub sound : (t xs : List ℕ) → length xs ≡ 8192 → fed start t .line ≡ 4 → TileRead t (fed start t) (fedInto start xs t)
@@ -80,8 +69,8 @@ reply-of-tile : (t : List ℕ) (p : Parser) (xs : List ℕ) → p .line ≡ 4 �
 unfolding replyOf answerOf decoded result
 reply-of-tile t p xs e r =
     rw (eq-eqb (p .line) 4 e)
-    (limited-result (checked (p .bpp) (p .width) (p .height)) (p .count) (take (p .count) xs) (r .stream) (r .count)
-    (λ few. held-all (p .count) xs (r .stream) (r .space) (r .count) few (r .held)))
+    (limited-result (checked (p .bpp) (p .width) (p .height)) (p .count) (take (p .count) xs) (r .stream) (r .kept .count)
+    (λ few. held-all (p .count) xs (r .stream) (r .kept .space) (r .kept .count) few (r .kept .held)))
 
 reply-of-none : (p : Parser) (xs : List ℕ) → (p .line ≡ 4 → ⊥) → replyOf p xs ≡ badTileText
 unfolding replyOf
@@ -92,7 +81,9 @@ answered-by : (t xs : List ℕ) → length xs ≡ 8192 → (u : Bool) → eqb (f
 answered-by t xs e true whole =
     let l = eqb-true (fed start t .line) 4 whole in
     let r = sound t xs e l in
-    tile _ _ _ (r .stream) (r .tile) (r .text) (reply-of-tile t (fed start t) (fedInto start xs t) l r)
+    let k = r .kept in
+    tile _ _ _ (r .stream) (record { width = k .width; height = k .height; bpp = k .bpp; bytes = k .bytes }) (r .text)
+    (reply-of-tile t (fed start t) (fedInto start xs t) l r)
 answered-by t xs e false other =
     let l = eqb-false (fed start t .line) 4 other in
     noTile (λ w h b s g f. l (ap (λ (p : Parser). p .line) (complete t w h b s g f)))

@@ -10,4 +10,3 @@ pub mod Inverse
 pub mod Unique
 pub mod Writing
 pub mod Replying
-pub mod Case

@@ -1,7 +1,7 @@
 -- From the decoder's report to the answer: each way through `answer` gives the definition's result, and the lines with its values are
 -- the definition's lines. Assumes nothing.
 use mathlib.Core.Path.{_≡_, refl, _∙_, ap, subst}
-use mathlib.Core.List.{List, []}
+use mathlib.Core.List.{List}
 use Prim.Native.Nat.{ℕ, _+_, _*_, _-_, _<_, _≤_}
 use native.Mathlib.Omega.{arith}
 use lib.Dec.{ltb}
@@ -19,24 +19,19 @@ use Rattle.tile_text.specs.Reply.{decoded, replyOf, Replies}
 use Rattle.tile_text.specs.Contracts.{Writes, fieldsOf, countsOf, linesWith, Within, Answered}
 use Rattle.tile_text.specs.declared.parser.Parser.{Parser}
 use Rattle.tile_text.specs.declared.answer.Fields.{Fields}
+use Rattle.tile_text.proofs.Tests.{apart}
 use Rattle.tile_text.proofs.Writing.{writes-as, from-start}
-
-unlike : {A : Type 0} → _≡_ {A = ℕ} 0 1 → A
-unlike e = absurd (omega arith)
 
 -- ---- refusals before the stream
 
-nothing : Refusal → Result
-nothing r = record { refusal = r; format = 0; bytes = 0; painted = []; orders = 0 }
-
-nothing-painted : (r : Refusal) (xs : List ℕ) (v : Fields) → v ≡ fieldsOf 0 r 0 0 0 → Answered (nothing r) xs xs v
-unfolding nothing bytesOf
+nothing-painted : (r : Refusal) (xs : List ℕ) (v : Fields) → v ≡ fieldsOf 0 r 0 0 0 → Answered (refusedWith r) xs xs v
+unfolding refusedWith bytesOf
 nothing-painted r xs v e = record { fields = e; target = refl; fits = omega arith }
 
-away-result : (c : Checked) (r : Refusal) (stream : List ℕ) → refused r ≡ sizeOf c → ofChecked stream c ≡ nothing r
-unfolding sizeOf ofChecked nothing
+away-result : (c : Checked) (r : Refusal) (stream : List ℕ) → refused r ≡ sizeOf c → ofChecked stream c ≡ refusedWith r
+unfolding sizeOf ofChecked refusedWith
 away-result (away q) r stream e = let same : q ≡ r = cc in rw same
-away-result (fit f k) r stream e = unlike cc
+away-result (fit f k) r stream e = apart cc
 
 fit-limited : (c : Checked) (n streamBytes : ℕ) (e : Result) → bytes n ≡ sizeOf c
     → limited (sizeOf c) streamBytes e ≡ pick (ltb 65536 n) tileTooLarge (pick (ltb 8192 streamBytes) tileTooLarge e)
@@ -45,7 +40,7 @@ fit-limited c n streamBytes e h = rw (← h)
 
 module _ (p : Parser) (stream xs : List ℕ) (v : Fields) where
   pub answered-bad : (p .line ≡ 4 → ⊥) → v ≡ fieldsOf 0 (refusal 9 0 0) 0 0 0 → Answered (replyOf p stream) xs xs v
-  unfolding replyOf badTileText refusedWith nothing
+  unfolding replyOf badTileText
   answered-bad h e = rw (ne-eqb _ _ h) (nothing-painted (refusal 9 0 0) xs v e)
 
   module _ (whole : p .line ≡ 4) where
@@ -57,12 +52,12 @@ module _ (p : Parser) (stream xs : List ℕ) (v : Fields) where
 
     module _ (n : ℕ) (size : bytes n ≡ sizeOf (checked (p .bpp) (p .width) (p .height))) where
       pub answered-picture : 65536 < n → v ≡ fieldsOf 0 (refusal 10 0 0) 0 0 0 → Answered (replyOf p stream) xs xs v
-      unfolding replyOf tileTooLarge refusedWith nothing
+      unfolding replyOf tileTooLarge
       answered-picture h e =
           rw (eq-eqb _ _ whole, fit-limited _ n (p .count) (decoded p stream) size, lt-ltb _ _ h) (nothing-painted (refusal 10 0 0) xs v e)
 
       pub answered-stream : n ≤ 65536 → 8192 < p .count → v ≡ fieldsOf 0 (refusal 10 0 0) 0 0 0 → Answered (replyOf p stream) xs xs v
-      unfolding replyOf tileTooLarge refusedWith nothing
+      unfolding replyOf tileTooLarge
       answered-stream h g e =
           rw (eq-eqb _ _ whole, fit-limited _ n (p .count) (decoded p stream) size, le-ltb _ _ h, lt-ltb _ _ g) (nothing-painted (refusal 10 0 0) xs v e)
 
@@ -76,7 +71,7 @@ module _ (p : Parser) (stream xs : List ℕ) (v : Fields) where
 -- a picture that fits meets no refusal 4
 fit-space : (c : Checked) (n given : ℕ) → bytes n ≡ sizeOf c → n ≤ given → withSpace given c ≡ c
 unfolding sizeOf withSpace
-fit-space (away r) n given e h = unlike cc
+fit-space (away r) n given e h = apart cc
 fit-space (fit f k) n given e h =
     let same : n ≡ f .total * f .bytes = cc in
     rw (le-ltb given (f .total * f .bytes) (subst (λ (m : ℕ). m ≤ given) same h))

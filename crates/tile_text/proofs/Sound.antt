@@ -113,7 +113,7 @@ bytes-grown (y ∷ ys) x g h = (g .0, bytes-grown ys x (g .1) h)
 
 -- ---- one byte more
 
-module _ (t : List ℕ) (p : Parser) (s xs : List ℕ) (b : ℕ) (k : Kept p s xs) where
+module _ (t : List ℕ) (p : Parser) (s xs : List ℕ) (b : ℕ) (kept : Kept p s xs) where
   -- the state q has read the byte b too
   abbrev More : Parser → Type 0
   More q = Reads (t ++ (b ∷ [])) q (stored p xs b)
@@ -124,22 +124,22 @@ module _ (t : List ℕ) (p : Parser) (s xs : List ℕ) (b : ℕ) (k : Kept p s x
   goes q e w h d c seen =
       going s
       (subst (λ (ys : List ℕ). Kept q s ys) (stored-not p b xs e)
-      (record { width = w; height = h; bpp = d; bytes = k .bytes; count = c ∙ k .count; space = k .space; held = k .held }))
+      (record { width = w; height = h; bpp = d; bytes = kept .bytes; count = c ∙ kept .count; space = kept .space; held = kept .held }))
       seen
 
   from-key : p .line < 4 → p .begun ≡ false → s ≡ [] → t ≡ front (p .line) p ++ take (p .place) (keyOf (p .line))
       → 0 < keyByte (p .line) (p .place) → More (step p b)
-  from-key l none z e more =
+  from-key l none empty e more =
       rw (step-key p b more)
       (key-cases p b More
-      (λ same. goes (keyRead p) (ends-first p b none) (k .width) (k .height) (k .bpp) refl
-      (inKey l none z
+      (λ same. goes (keyRead p) (ends-first p b none) (kept .width) (kept .height) (kept .bpp) refl
+      (inKey l none empty
       (rw (e, append-assoc, key-more (p .line) (p .place) more) (ap (λ (x : ℕ). front (p .line) p ++ (take (p .place) (keyOf (p .line)) ++ (x ∷ []))) same))))
       (fails _ p _))
 
   -- ---- numbers
 
-  module _ (l : p .line < 3) (z : s ≡ []) where
+  module _ (l : p .line < 3) (empty : s ≡ []) where
     in-number : endsByte p b ≡ false
     in-number = ends-elsewhere p b (λ e. omega arith)
 
@@ -149,18 +149,18 @@ module _ (t : List ℕ) (p : Parser) (s xs : List ℕ) (b : ℕ) (k : Kept p s x
         → linesBefore (i + 1) w h d ≡ front i p ++ line (keyOf i) (decimal (p .value)) → More (nextLine p w h d)
     line-ends i w h d at lf fw fh fd e lines =
         goes (nextLine p w h d) in-number fw fh fd refl
-        (inKey (omega arith) refl z (rw (at, lf, lines, e, at) (line-closed (front i p) (keyOf i) (decimal (p .value)))))
+        (inKey (omega arith) refl empty (rw (at, lf, lines, e, at) (line-closed (front i p) (keyOf i) (decimal (p .value)))))
 
     number-ends : b ≡ 10 → p .value < 100_000_000 → t ≡ front (p .line) p ++ (keyOf (p .line) ++ decimal (p .value)) → More (endNumber p)
     unfolding endNumber linesBefore keys
     number-ends lf small e =
         by-test More (eqb (p .line) 0)
-        (λ at. line-ends 0 (p .value) (p .height) (p .bpp) (eqb-true _ _ at) lf small (k .height) (k .bpp) e refl)
+        (λ at. line-ends 0 (p .value) (p .height) (p .bpp) (eqb-true _ _ at) lf small (kept .height) (kept .bpp) e refl)
         (λ not0. by-test More (eqb (p .line) 1)
-        (λ at. line-ends 1 (p .width) (p .value) (p .bpp) (eqb-true _ _ at) lf (k .width) small (k .bpp) e refl)
+        (λ at. line-ends 1 (p .width) (p .value) (p .bpp) (eqb-true _ _ at) lf (kept .width) small (kept .bpp) e refl)
         (λ not1.
         let at : p .line ≡ 2 = omega (arith, eqb-false (p .line) 0 not0, eqb-false (p .line) 1 not1) in
-        line-ends 2 (p .width) (p .height) (p .value) at lf (k .width) (k .height) small e refl))
+        line-ends 2 (p .width) (p .height) (p .value) at lf (kept .width) (kept .height) small e refl))
 
     from-number : keyByte (p .line) (p .place) ≡ 0 → (p .begun ≡ true → p .value < 100_000_000)
         → t ≡ front (p .line) p ++ (keyOf (p .line) ++ digits p) → More (step p b)
@@ -172,8 +172,8 @@ module _ (t : List ℕ) (p : Parser) (s xs : List ℕ) (b : ℕ) (k : Kept p s x
         (λ digit more.
         let d = decimal-digit b digit in
         let v = digits-grown p (decimalValue b) more (d .small) in
-        goes (numberDigit p (decimalValue b)) in-number (k .width) (k .height) (k .bpp) refl
-        (inNumber l over (λ _. v .small) z
+        goes (numberDigit p (decimalValue b)) in-number (kept .width) (kept .height) (kept .bpp) refl
+        (inNumber l over (λ _. v .small) empty
         (ap (λ (u : List ℕ). u ++ (b ∷ [])) e
         ∙ longer (front (p .line) p) (keyOf (p .line)) (digits p) _ b (v .text ∙ rw (← d .code)))))
         (fails _ p _))
@@ -186,34 +186,34 @@ module _ (t : List ℕ) (p : Parser) (s xs : List ℕ) (b : ℕ) (k : Kept p s x
     unfolding countMore
     counted-more =
         by-test (λ c. c ≡ min 8193 (length (s ++ (x ∷ [])))) (ltb (p .count) 8193)
-        (λ low. let l = ltb-true (p .count) 8193 low in omega (arith, k .count, length-append s (x ∷ [])))
-        (λ high. let g = ltb-false (p .count) 8193 high in omega (arith, k .count, length-append s (x ∷ [])))
+        (λ low. let l = ltb-true (p .count) 8193 low in omega (arith, kept .count, length-append s (x ∷ [])))
+        (λ high. let g = ltb-false (p .count) 8193 high in omega (arith, kept .count, length-append s (x ∷ [])))
 
     held-more : p .count < 8192 → (i : ℕ) → i < 8192 → i < length (s ++ (x ∷ [])) → getD (set xs (p .count) x) i 0 ≡ getD (s ++ (x ∷ [])) i 0
     held-more low i h g =
-        let c : p .count ≡ length s = omega (arith, k .count) in
+        let c : p .count ≡ length s = omega (arith, kept .count) in
         by-less i (length s)
         (λ small.
         let other : i ≡ p .count → ⊥ = (λ same. omega arith) in
-        getD-set-other xs (p .count) i x 0 other ∙ k .held i h small ∙ sym (List·getD-append s (x ∷ []) 0 i small))
+        getD-set-other xs (p .count) i x 0 other ∙ kept .held i h small ∙ sym (List·getD-append s (x ∷ []) 0 i small))
         (λ high.
         let last : i ≡ length s = omega (arith, length-append s (x ∷ [])) in
-        rw (last, c) (getD-set-same xs (length s) x 0 (omega (arith, k .space)) ∙ sym (getD-append-seam s x [] 0)))
+        rw (last, c) (getD-set-same xs (length s) x 0 (omega (arith, kept .space)) ∙ sym (getD-append-seam s x [] 0)))
 
     held-past : 8192 ≤ p .count → (i : ℕ) → i < 8192 → i < length (s ++ (x ∷ [])) → getD xs i 0 ≡ getD (s ++ (x ∷ [])) i 0
     held-past high i h g =
-        let small : i < length s = omega (arith, k .count) in
-        k .held i h small ∙ sym (List·getD-append s (x ∷ []) 0 i small)
+        let small : i < length s = omega (arith, kept .count) in
+        kept .held i h small ∙ sym (List·getD-append s (x ∷ []) 0 i small)
 
     kept-more : (ys : List ℕ) → length ys ≡ 8192 → ((i : ℕ) → i < 8192 → i < length (s ++ (x ∷ [])) → getD ys i 0 ≡ getD (s ++ (x ∷ [])) i 0)
         → Kept (byteRead p) (s ++ (x ∷ [])) ys
     unfolding byteRead
     kept-more ys space held =
         record {
-          width = k .width;
-          height = k .height;
-          bpp = k .bpp;
-          bytes = bytes-grown s x (k .bytes) byte;
+          width = kept .width;
+          height = kept .height;
+          bpp = kept .bpp;
+          bytes = bytes-grown s x (kept .bytes) byte;
           count = counted-more;
           space = space;
           held = held;
@@ -223,8 +223,8 @@ module _ (t : List ℕ) (p : Parser) (s xs : List ℕ) (b : ℕ) (k : Kept p s x
     kept-stored e same =
         by-less (p .count) 8192
         (λ low. subst (λ (ys : List ℕ). Kept (byteRead p) (s ++ (x ∷ [])) ys) (stored-in p b xs (hexValue b) e refl low)
-        (rw same (kept-more (set xs (p .count) x) (length-set xs (p .count) x ∙ k .space) (held-more low))))
-        (λ high. subst (λ (ys : List ℕ). Kept (byteRead p) (s ++ (x ∷ [])) ys) (stored-past p b xs e high) (kept-more xs (k .space) (held-past high)))
+        (rw same (kept-more (set xs (p .count) x) (length-set xs (p .count) x ∙ kept .space) (held-more low))))
+        (λ high. subst (λ (ys : List ℕ). Kept (byteRead p) (s ++ (x ∷ [])) ys) (stored-past p b xs e high) (kept-more xs (kept .space) (held-past high)))
 
   byte-ends : p .line ≡ 3 → keyByte (p .line) (p .place) ≡ 0 → p .value < 16 → p .begun ≡ true → hexValue b < 16
       → t ≡ front 3 p ++ (streamKey ++ (hexPairs s ++ (hexDigit (p .value) ∷ []))) → More (byteRead p)
@@ -244,10 +244,10 @@ module _ (t : List ℕ) (p : Parser) (s xs : List ℕ) (b : ℕ) (k : Kept p s x
   from-stream l over small e =
       rw (step-stream p b over l)
       (stream-cases p b More
-      (λ lf none. goes (onLine 4 p) (ends-first p b none) (k .width) (k .height) (k .bpp) refl
+      (λ lf none. goes (onLine 4 p) (ends-first p b none) (kept .width) (kept .height) (kept .bpp) refl
       (atEnd refl (rw (rw none at e, lf) (text-closed (p .width) (p .height) (p .bpp) s))))
       (λ digit begun. byte-ends l over (small begun) begun digit (rw begun at e))
-      (λ digit none. goes (withValue (hexValue b) p) (ends-first p b none) (k .width) (k .height) (k .bpp) refl
+      (λ digit none. goes (withValue (hexValue b) p) (ends-first p b none) (kept .width) (kept .height) (kept .bpp) refl
       (inStream l over (λ _. digit)
       (ap (λ (u : List ℕ). u ++ (b ∷ [])) (rw none at e)
       ∙ longer (front 3 p) streamKey (hexPairs s ++ []) _ b
@@ -258,17 +258,17 @@ module _ (t : List ℕ) (p : Parser) (s xs : List ℕ) (b : ℕ) (k : Kept p s x
   from-key-end : p .line < 4 → p .begun ≡ false → s ≡ [] → t ≡ front (p .line) p ++ take (p .place) (keyOf (p .line))
       → keyByte (p .line) (p .place) ≡ 0 → More (step p b)
   unfolding hexPairs keys
-  from-key-end l none z e over =
+  from-key-end l none empty e over =
       let read : t ≡ front (p .line) p ++ keyOf (p .line) = e ∙ ap (λ (u : List ℕ). front (p .line) p ++ u) (key-over (p .line) (p .place) over) in
-      by-less (p .line) 3 (λ low. from-number low z over (λ begun. clash begun none) (rw none (read ∙ ap (λ (u : List ℕ). front (p .line) p ++ u) (sym (append-nil (keyOf (p .line)))))))
+      by-less (p .line) 3 (λ low. from-number low empty over (λ begun. clash begun none) (rw none (read ∙ ap (λ (u : List ℕ). front (p .line) p ++ u) (sym (append-nil (keyOf (p .line)))))))
       (λ high.
       let last : p .line ≡ 3 = omega arith in
-      from-stream last over (λ begun. clash begun none) (read ∙ rw (last, z, none) (rw append-nil)))
+      from-stream last over (λ begun. clash begun none) (read ∙ rw (last, empty, none) (rw append-nil)))
 
   from-seen : Seen t p s → More (step p b)
-  from-seen (inKey l none z e) =
-      by-less 0 (keyByte (p .line) (p .place)) (λ more. from-key l none z e more) (λ over. from-key-end l none z e (omega arith))
-  from-seen (inNumber l over small z e) = from-number l z over small e
+  from-seen (inKey l none empty e) =
+      by-less 0 (keyByte (p .line) (p .place)) (λ more. from-key l none empty e more) (λ over. from-key-end l none empty e (omega arith))
+  from-seen (inNumber l over small empty e) = from-number l empty over small e
   from-seen (inStream l over small e) = from-stream l over small e
   from-seen (atEnd l e) = rw (step-after p b (omega arith)) (fails _ p _)
 

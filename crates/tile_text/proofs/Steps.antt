@@ -9,11 +9,11 @@ use lib.ListN.{set}
 use borrow.Author.Tests.{eq-eqb, ne-eqb, lt-ltb, le-ltb, ltb-true, eqb-true, eqb-false}
 use Rattle.tile_text.specs.Parse.{keyByte, decimalValue, hexValue, onLine, bad, keyRead, withValue, endNumber, byteRead, goesOn, numberDigit, numberStep, streamStep, keyStep, step, endsByte, stored}
 use Rattle.tile_text.specs.declared.parser.Parser.{Parser}
-use Rattle.tile_text.proofs.Tests.{by-test}
+use Rattle.tile_text.proofs.Tests.{apart, by-test}
 use Rattle.tile_text.proofs.Keys.{past-lines}
 
 pub clash : {A : Type 0} {t : Bool} → t ≡ true → t ≡ false → A
-clash e f = let z : _≡_ {A = ℕ} 0 1 = cc in absurd (omega arith)
+clash e f = apart cc
 
 -- a number that is begun and goes on isn't 0, and is below 10,000,000
 pub going-on : (p : Parser) → p .begun ≡ true → goesOn p ≡ true → (0 < p .value) × (p .value < 10_000_000)
@@ -77,12 +77,13 @@ module _ (p : Parser) (b : ℕ) where
   ends-second e f h = rw (eq-eqb _ _ e, f, lt-ltb _ _ h)
 
   -- a digit that ends a byte is one
-  pub ending-digit : endsByte p b ≡ true → hexValue b < 16
+  pub ending-digit : {d : ℕ} → endsByte p b ≡ true → d ≡ hexValue b → d < 16
   unfolding endsByte
-  ending-digit =
-      by-test (λ t. t ≡ true → hexValue b < 16) (eqb (p .line) 3)
+  ending-digit ends e =
+      rw e
+      (by-test (λ t. t ≡ true → hexValue b < 16) (eqb (p .line) 3)
       (λ _. by-test (λ t. t ≡ true → hexValue b < 16) (p .begun) (λ _ less. ltb-true _ _ less) (λ _ no. clash no refl))
-      (λ _ no. clash no refl)
+      (λ _ no. clash no refl) ends)
 
   -- ---- the stream's array
 

@@ -12,6 +12,10 @@ pub by-test : {A : Type 0} (Q : A → Type 0) (t : Bool) {a b : A} → (t ≡ tr
 by-test Q true f g = f refl
 by-test Q false f g = g refl
 
+-- what is so by `cc` where two constructors that differ are equal
+pub apart : {A : Type 0} → _≡_ {A = ℕ} 0 1 → A
+apart e = absurd (omega arith)
+
 pub by-less : {A : Type 0} (m n : ℕ) → (m < n → A) → (n ≤ m → A) → A
 by-less m n f g = elim (decLt m n) [ yes h ↦ f h | no h ↦ g (omega arith) ]
 

@@ -1,4 +1,5 @@
--- Writing one text after the other is writing both. Assumes nothing.
+-- What the writing functions promise, put together: one text after the other is both, a turn of a loop is one byte or one pair more.
+-- Assumes nothing.
 use mathlib.Core.Path.{_≡_, refl, _∙_, ap, sym, subst}
 use mathlib.Core.List.{List, [], _∷_, _++_}
 use Prim.Native.Nat.{ℕ, suc, _+_, _/_, _%_, _<_, _≤_}

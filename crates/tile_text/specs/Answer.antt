@@ -7,22 +7,21 @@ use Prim.Native.Nat.{ℕ}
 use lib.Dec.{ltb, eqb}
 use lib.ListN.{length}
 use Rattle.rle.specs.Pixels.{pick, bytesOf}
-use Rattle.rle.specs.Orders.{refusal}
+use Rattle.rle.specs.Orders.{Refusal, refusal}
 use Rattle.rle.specs.Decode.{Result, checked, result}
 use Rattle.rle.specs.Report.{Size, bytes, refused, sizeOf}
 use Rattle.tile_text.specs.Text.{decimal, hexPairs, line, textOf, Tile}
 
--- 9 and 10 decode nothing: their numbers and counts are 0, and no byte is painted
-unfoldable pub refusedWith : ℕ → Result
-refusedWith n = record { refusal = refusal n 0 0; format = 0; bytes = 0; painted = []; orders = 0 }
+-- a refusal that decodes nothing: the counts are 0, and no byte is painted
+unfoldable pub refusedWith : Refusal → Result
+refusedWith r = record { refusal = r; format = 0; bytes = 0; painted = []; orders = 0 }
 
+-- 9 and 10, whose two numbers are 0
 unfoldable pub badTileText : Result
-unfolding refusedWith
-badTileText = refusedWith 9
+badTileText = refusedWith (refusal 9 0 0)
 
 unfoldable pub tileTooLarge : Result
-unfolding refusedWith
-tileTooLarge = refusedWith 10
+tileTooLarge = refusedWith (refusal 10 0 0)
 
 -- the decoder's 1 to 3 stay; then 10 where the picture is over 65,536 bytes or the stream over 8,192; else what decoding gives
 unfoldable pub limited : Size → ℕ → Result → Result

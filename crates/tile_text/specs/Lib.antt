@@ -1,5 +1,6 @@
 pub mod Text
 pub mod Answer
+pub mod Case
 pub mod Parse
 pub mod Reply
 pub mod Contracts

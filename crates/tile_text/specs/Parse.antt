@@ -26,6 +26,7 @@ decimalValue b = pick (ltb b 48) 16 (pick (ltb 57 b) 16 (b - 48))
 unfoldable pub hexValue : ℕ → ℕ
 hexValue b = pick (leb b 57) (decimalValue b) (pick (ltb b 97) 16 (pick (ltb 102 b) 16 (b - 87)))
 
+-- nothing is read yet
 abbrev pub start : Parser
 start = record { line = 0; place = 0; begun = false; value = 0; width = 0; height = 0; bpp = 0; count = 0 }
 
@@ -42,6 +43,10 @@ bad p = onLine 5 p
 abbrev pub keyRead : Parser → Parser
 keyRead p =
     record { line = p .line; place = p .place + 1; begun = p .begun; value = p .value; width = p .width; height = p .height; bpp = p .bpp; count = p .count }
+
+-- the byte b in a key
+unfoldable pub keyStep : Parser → ℕ → Parser
+keyStep p b = pick (eqb b (keyByte (p .line) (p .place))) (keyRead p) (bad p)
 
 -- a digit of a number or of a byte is read, and the value so far is v
 abbrev pub withValue : ℕ → Parser → Parser
@@ -87,10 +92,6 @@ unfoldable pub streamStep : Parser → ℕ → Parser
 streamStep p b =
     pick (eqb b 10) (pick (p .begun) (bad p) (onLine 4 p))
     (pick (ltb (hexValue b) 16) (pick (p .begun) (byteRead p) (withValue (hexValue b) p)) (bad p))
-
--- the byte b in a key
-unfoldable pub keyStep : Parser → ℕ → Parser
-keyStep p b = pick (eqb b (keyByte (p .line) (p .place))) (keyRead p) (bad p)
 
 -- the state after the byte b
 unfoldable pub step : Parser → ℕ → Parser

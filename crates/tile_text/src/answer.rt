@@ -80,9 +80,8 @@ fn put_lines(fields: Fields, target: &[u8; 65536], out: &mut [u8; 131328]) -> us
     ensures { λ r. ⌜ Writes (now (out .entry)) 0 (linesWith fields (now (target .entry))) (now (out .exit)) r ⌝ }
     ensures { λ r. ⌜ (r ≤ 131328) × (length (now (out .entry)) ≡ 131328) ⌝ }
 {
-    let painted = fields.painted;
-    let at = put_counts(fields, out);
-    put_painted(target, painted, out, at)
+    let after_counts = put_counts(fields, out);
+    put_painted(target, fields.painted, out, after_counts)
 }
 
 // Decodes a tile that is within the limits.
@@ -90,8 +89,7 @@ fn decode(p: Parser, stream: &[u8], target: &mut [u8]) -> Fields
     requires { ⌜ Within p (now stream) (now target) ⌝ }
     ensures { λ r. ⌜ Answered (decoded p (now (stream .entry))) (now (target .entry)) (now (target .exit)) r ⌝ }
 {
-    let count = p.count;
-    let report = rle::decompress(&stream[..count], target, p.width, p.height, p.bpp);
+    let report = rle::decompress(&stream[..p.count], target, p.width, p.height, p.bpp);
     let painted = report.pixels * rle::bytes_per_pixel(p.bpp);
     let outcome = report.outcome;
     outcome_fields(outcome, report.orders, report.pixels, painted)

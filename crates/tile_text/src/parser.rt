@@ -53,7 +53,7 @@ fn key_byte(line: usize, place: usize) -> usize
     wide(KEYS[line * 7 + place])
 }
 
-// The value of a decimal digit; `NO_DIGIT` where it is none.
+// The value of a decimal digit, which is `0` to `9`, 48 to 57; `NO_DIGIT` where it is none.
 fn decimal_value(b: usize) -> usize
     ensures { λ r. ⌜ r ≡ parse.decimalValue b ⌝ }
 {
@@ -66,7 +66,7 @@ fn decimal_value(b: usize) -> usize
     b - 48
 }
 
-// The value of a lower-case hexadecimal digit; `NO_DIGIT` where it is none.
+// The value of a lower-case hexadecimal digit, which is decimal or `a` to `f`, 97 to 102; `NO_DIGIT` where it is none.
 fn hex_value(b: usize) -> usize
     ensures { λ r. ⌜ r ≡ parse.hexValue b ⌝ }
 {

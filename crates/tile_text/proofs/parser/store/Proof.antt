@@ -1,6 +1,5 @@
 -- `store` meets its contract: its tests are the definition's, and a digit is below 16. Assumes nothing.
-use mathlib.Core.Path.{sym, _∙_, subst}
-use Prim.Native.Nat.{ℕ, _<_}
+use mathlib.Core.Path.{sym, _∙_}
 use Rattle.tile_text.proofs.Steps.{ending-digit, stored-in, stored-past, stored-not}
 use borrow.Author.Needs.{needs}
 use native.Mathlib.Omega.{arith}
@@ -18,15 +17,13 @@ mul-stream c = search needs
 
 add-stream : tie.Need-add-stream
 add-stream c =
-    let e = sym (c .before .before .before .before .ends-byte .ensures) ∙ c .before .before .before .if1 .taken in
-    let d = subst (λ (x : ℕ). x < 16) (sym (c .before .before .hex-value .ensures)) (ending-digit _ _ e) in
-    omega arith
+    let ends = sym (c .before .before .before .before .ends-byte .ensures) ∙ c .before .before .before .if1 .taken in
+    omega (arith, ending-digit _ _ ends (c .before .before .hex-value .ensures))
 
 cast-stream : tie.Need-cast-stream
 cast-stream c =
-    let e = sym (c .before .before .before .before .ends-byte .ensures) ∙ c .before .before .before .if1 .taken in
-    let d = subst (λ (x : ℕ). x < 16) (sym (c .before .before .hex-value .ensures)) (ending-digit _ _ e) in
-    omega arith
+    let ends = sym (c .before .before .before .before .ends-byte .ensures) ∙ c .before .before .before .if1 .taken in
+    omega (arith, ending-digit _ _ ends (c .before .before .hex-value .ensures))
 
 element-write-stream : tie.Need-element-write-stream
 element-write-stream c = search needs

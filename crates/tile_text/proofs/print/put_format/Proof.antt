@@ -24,10 +24,10 @@ put-bytes-requires-2 c κs = search needs
 returns : tie.Need-returns
 unfolding formatKey
 returns c =
-    let w = c .put-bytes2 .ensures in (
-      line-written (c .before .before .before .before .before .put-bytes .ensures) (c .before .before .before .put-name .ensures .0) w,
-      (omega (arith, w .place), c .before .before .before .before .before .before .put-bytes-arg2 .given .0 .1),
-    )
+    let u = c .before .before .before .before .before .put-bytes .ensures in
+    let v = c .before .before .before .put-name .ensures in
+    let w = c .put-bytes2 .ensures in
+    (line-written u (v .0) w, (omega (arith, w .place), c .before .before .before .before .before .before .put-bytes-arg2 .given .0 .1))
 
 pub put-format-spec : {M : Type 1} → statement M
 put-format-spec =

@@ -20,11 +20,10 @@ put-bytes-requires-2 c κs = omega (arith, c .before .before .put-decimal .ensur
 
 returns : tie.Need-returns
 returns c =
+    let u = c .before .before .before .before .before .put-bytes .ensures in
+    let v = c .before .before .before .put-decimal .ensures in
     let w = c .put-bytes2 .ensures in
-    let digits = c .before .before .before .put-decimal .ensures in (
-      line-written (c .before .before .before .before .before .put-bytes .ensures) digits w,
-      omega (arith, w .place, digits .place, c .before .before .before .before .before .put-bytes .ensures .place, decimal-length (c .before .before .before .before .before .before .before .before .args .n)),
-    )
+    (line-written u v w, omega (arith, u .place, v .place, w .place, decimal-length (c .before .before .before .before .before .before .before .before .args .n)))
 
 pub put-number-spec : {M : Type 1} → statement M
 put-number-spec =

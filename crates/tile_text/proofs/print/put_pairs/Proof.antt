@@ -1,10 +1,10 @@
 -- `put_pairs` meets its contract. The invariant: the bytes passed are written. Assumes nothing.
-use mathlib.Core.Path.{_≡_, subst}
-use Prim.Native.Nat.{ℕ, _<_, _≤_, _-_, _+_, _*_}
+use mathlib.Core.Path.{_≡_}
+use Prim.Native.Nat.{_<_, _≤_, _-_, _+_, _*_}
 use lib.ListN.{take, length}
 use Rattle.tile_text.specs.Text.{hexPairs}
 use Rattle.tile_text.specs.Contracts.{Writes}
-use Rattle.tile_text.proofs.Writing.{writes-none, pairs-more}
+use Rattle.tile_text.proofs.Writing.{writes-none, writes-as, pairs-more}
 use borrow.Author.Needs.{needs}
 use native.Mathlib.Omega.{arith}
 use Rattle.tile_text.proofs.print.put_pairs.Statement.{statement}
@@ -41,7 +41,7 @@ loop-again c =
 returns : tie.Need-returns Inv-loop μ-loop
 returns c =
     let e : c .before .loop .i ≡ c .before .before .before .args .n = omega arith in
-    subst (λ (k : ℕ). Writes (c .before .before .before .args .out .now) (c .before .before .before .args .at) (hexPairs (take k (c .before .before .before .args .bytes .now))) (c .before .loop .out) (c .before .loop .next)) e (c .before .loop .inv .2)
+    writes-as (rw e) (c .before .loop .inv .2)
 
 pub put-pairs-spec : {M : Type 1} → statement M
 put-pairs-spec =

@@ -1,7 +1,7 @@
--- A whole case, computed by the definitions: the program's files `stdin` and `stdout` have these bytes. Assumes
--- nothing.
+-- Cases of the tile program, computed by the definitions: a whole one, whose bytes are those of the program's files `stdin` and
+-- `stdout`, and the name of each format. Assumes nothing.
 use mathlib.Core.Path.{_≡_, refl}
-use mathlib.Core.List.{List, [], _∷_}
+use mathlib.Core.List.{List, [], _∷_, map}
 use Prim.Native.Nat.{ℕ}
 use Rattle.rle.specs.Pixels as Pixels
 use Rattle.rle.specs.Orders as Orders
@@ -10,15 +10,15 @@ use Rattle.rle.specs.Report as Report
 use Rattle.tile_text.specs.Text as Text
 use Rattle.tile_text.specs.Answer as Answer
 use Rattle.tile_text.specs.Text.{textOf}
-use Rattle.tile_text.specs.Answer.{answerOf, linesOf}
+use Rattle.tile_text.specs.Answer.{formatName, answerOf, linesOf}
 
 -- width 4, height 2, bpp 8, stream 02 02
-abbrev pub text : List ℕ
+abbrev text : List ℕ
 text =
     119 ∷ 105 ∷ 100 ∷ 116 ∷ 104 ∷ 61 ∷ 52 ∷ 10 ∷ 104 ∷ 101 ∷ 105 ∷ 103 ∷ 104 ∷ 116 ∷ 61 ∷ 50 ∷ 10 ∷ 98 ∷ 112 ∷ 112
     ∷ 61 ∷ 56 ∷ 10 ∷ 115 ∷ 116 ∷ 114 ∷ 101 ∷ 97 ∷ 109 ∷ 61 ∷ 48 ∷ 50 ∷ 48 ∷ 50 ∷ 10 ∷ []
 
-abbrev pub lines : List ℕ
+abbrev lines : List ℕ
 lines =
     102 ∷ 111 ∷ 114 ∷ 109 ∷ 97 ∷ 116 ∷ 61 ∷ 82 ∷ 103 ∷ 98 ∷ 56 ∷ 10 ∷ 114 ∷ 101 ∷ 102 ∷ 117 ∷ 115 ∷ 97 ∷ 108 ∷ 61
     ∷ 48 ∷ 10 ∷ 102 ∷ 105 ∷ 114 ∷ 115 ∷ 116 ∷ 61 ∷ 48 ∷ 10 ∷ 115 ∷ 101 ∷ 99 ∷ 111 ∷ 110 ∷ 100 ∷ 61 ∷ 48 ∷ 10 ∷ 111
@@ -30,23 +30,18 @@ unfolding textOf Text.line Text.decimal Text.decimalIn Text.hexPairs Text.hexDig
 case-text = refl
 
 pub case-lines : linesOf (answerOf 4 2 8 (2 ∷ 2 ∷ [])) ≡ lines
-unfolding answerOf linesOf Answer.limited Answer.formatName Answer.formatKey Answer.refusalKey Answer.firstKey Answer.secondKey Answer.ordersKey Answer.pixelsKey Answer.paintedKey Text.line Text.decimal Text.decimalIn Text.hexPairs Text.hexDigit Report.sizeOf
+unfolding answerOf linesOf formatName Answer.limited Answer.formatKey Answer.refusalKey Answer.firstKey Answer.secondKey Answer.ordersKey Answer.pixelsKey Answer.paintedKey Text.line Text.decimal Text.decimalIn Text.hexPairs Text.hexDigit Report.sizeOf
     Pixels.firstPixel
-    Pixels.pixelAt
     Pixels.bytesOf
     Pixels.xorPixel
     Orders.row
     Orders.rows
-    Orders.noRow
     Orders.kindRow
     Orders.kindOf
-    Orders.isMegaMega
     Orders.hasHeader
     Orders.numberIn
     Orders.kindNumber
-    Orders.withBytes
     Orders.shortLength
-    Orders.megaMegaLength
     Orders.lengthIn
     Orders.lengthOf
     Orders.headed
@@ -56,32 +51,14 @@ unfolding answerOf linesOf Answer.limited Answer.formatName Answer.formatKey Ans
     Decode.paint
     Decode.start
     Decode.withLeft
-    Decode.withForeground
     Decode.withPainted
     Decode.completed
     Decode.fgInk
     Decode.bgInk
     Decode.insertInk
-    Decode.maskInk
-    Decode.ditherInk
     Decode.room
-    Decode.tooLarge
-    Decode.tooShort
-    Decode.needBytes
     Decode.paintOrder
     Decode.bgRun
-    Decode.fgRun
-    Decode.setForeground
-    Decode.setFgRun
-    Decode.colorRun
-    Decode.ditheredRun
-    Decode.colorImage
-    Decode.specialFgBg
-    Decode.oneMask
-    Decode.andThen
-    Decode.masks
-    Decode.fgBgImage
-    Decode.setFgBgImage
     Decode.orderOf
     Decode.orderFrom
     Decode.endFirstRow
@@ -91,7 +68,6 @@ unfolding answerOf linesOf Answer.limited Answer.formatName Answer.formatKey Ans
     Decode.run
     Decode.decode
     Decode.depths
-    Decode.noDepth
     Decode.depthIndex
     Decode.depthOf
     Decode.fitOf
@@ -101,3 +77,15 @@ unfolding answerOf linesOf Answer.limited Answer.formatName Answer.formatKey Ans
     Decode.ofChecked
     Decode.result
 case-lines = refl
+
+-- `none`, `Rgb8`, `Rgb15`, `Rgb16`, `Rgb24`
+pub case-formats :
+    map formatName (0 ∷ 8 ∷ 15 ∷ 16 ∷ 24 ∷ [])
+    ≡ (110 ∷ 111 ∷ 110 ∷ 101 ∷ [])
+    ∷ (82 ∷ 103 ∷ 98 ∷ 56 ∷ [])
+    ∷ (82 ∷ 103 ∷ 98 ∷ 49 ∷ 53 ∷ [])
+    ∷ (82 ∷ 103 ∷ 98 ∷ 49 ∷ 54 ∷ [])
+    ∷ (82 ∷ 103 ∷ 98 ∷ 50 ∷ 52 ∷ [])
+    ∷ []
+unfolding formatName Text.decimal Text.decimalIn
+case-formats = refl
