@@ -1,12 +1,12 @@
 pub mod Tests
-pub mod Keys
 pub mod Digits
 pub mod Decimals
+pub mod Writing
+pub mod Replying
+pub mod Keys
 pub mod Steps
 pub mod Chunks
 pub mod Complete
 pub mod Sound
 pub mod Inverse
 pub mod Unique
-pub mod Writing
-pub mod Replying

@@ -16,7 +16,7 @@ use Rattle.rle.specs.declared.report.Report.{Report}
 use Rattle.rle.proofs.Calls.{sized}
 use Rattle.tile_text.specs.Answer.{refusedWith, badTileText, tileTooLarge, limited, linesOf}
 use Rattle.tile_text.specs.Reply.{decoded, replyOf, Replies}
-use Rattle.tile_text.specs.Contracts.{Writes, fieldsOf, countsOf, linesWith, Within, Answered}
+use Rattle.tile_text.specs.Contracts.{Writes, fieldsOf, reportLines, linesWith, Within, Answered}
 use Rattle.tile_text.specs.declared.parser.Parser.{Parser}
 use Rattle.tile_text.specs.declared.answer.Fields.{Fields}
 use Rattle.tile_text.proofs.Tests.{apart}
@@ -127,7 +127,7 @@ module _ (p : Parser) (stream before after : List ℕ) (r : Report) (within : Wi
 -- ---- the lines
 
 pub same-lines : (e : Result) (before after : List ℕ) (v : Fields) → Answered e before after v → linesWith v after ≡ linesOf e
-unfolding linesWith countsOf linesOf
+unfolding linesWith reportLines linesOf
 same-lines e before after v a = rw (a .fields, a .target, take-append-seam)
 
 pub replied : {e : Result} {before after out out' : List ℕ} {v : Fields} {r : ℕ} → Answered e before after v

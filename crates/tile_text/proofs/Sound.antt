@@ -36,8 +36,8 @@ abbrev pub digits : Parser → List ℕ
 digits p = pick (p .begun) (decimal (p .value)) []
 
 -- the first digit of a byte
-abbrev pub half : Parser → List ℕ
-half p = pick (p .begun) (hexDigit (p .value) ∷ []) []
+abbrev pub firstDigit : Parser → List ℕ
+firstDigit p = pick (p .begun) (hexDigit (p .value) ∷ []) []
 
 -- t is what the state p has read, with s the stream's bytes so far
 pub data Seen (t : List ℕ) (p : Parser) (s : List ℕ) : Type 0 where
@@ -45,7 +45,7 @@ pub data Seen (t : List ℕ) (p : Parser) (s : List ℕ) : Type 0 where
   inNumber : p .line < 3 → keyByte (p .line) (p .place) ≡ 0 → (p .begun ≡ true → p .value < 100_000_000) → s ≡ []
       → t ≡ front (p .line) p ++ (keyOf (p .line) ++ digits p) → Seen t p s
   inStream : p .line ≡ 3 → keyByte (p .line) (p .place) ≡ 0 → (p .begun ≡ true → p .value < 16)
-      → t ≡ front 3 p ++ (streamKey ++ (hexPairs s ++ half p)) → Seen t p s
+      → t ≡ front 3 p ++ (streamKey ++ (hexPairs s ++ firstDigit p)) → Seen t p s
   atEnd : p .line ≡ 4 → t ≡ textOf (p .width) (p .height) (p .bpp) s → Seen t p s
 
 -- what holds of the numbers and of the stream's array all along
@@ -240,7 +240,7 @@ module _ (t : List ℕ) (p : Parser) (s xs : List ℕ) (b : ℕ) (kept : Kept p 
       ∙ ap (λ (c : ℕ). (hexPairs s ++ (hexDigit (p .value) ∷ [])) ++ (c ∷ [])) (sym (hex-digit b digit)))))
 
   from-stream : p .line ≡ 3 → keyByte (p .line) (p .place) ≡ 0 → (p .begun ≡ true → p .value < 16)
-      → t ≡ front 3 p ++ (streamKey ++ (hexPairs s ++ half p)) → More (step p b)
+      → t ≡ front 3 p ++ (streamKey ++ (hexPairs s ++ firstDigit p)) → More (step p b)
   from-stream l over small e =
       rw (step-stream p b over l)
       (stream-cases p b More

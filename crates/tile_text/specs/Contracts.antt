@@ -27,9 +27,9 @@ abbrev pub fieldsOf : ℕ → Refusal → ℕ → ℕ → ℕ → Fields
 fieldsOf format r orders pixels painted =
     record { format = format; refusal = r .number; first = r .first; second = r .second; orders = orders; pixels = pixels; painted = painted }
 
--- the lines with these values but the last
-unfoldable pub countsOf : Fields → List ℕ
-countsOf v =
+-- the lines of the report, all but the last
+unfoldable pub reportLines : Fields → List ℕ
+reportLines v =
     line formatKey (formatName (v .format))
     ++ line refusalKey (decimal (v .refusal))
     ++ line firstKey (decimal (v .first))
@@ -37,9 +37,9 @@ countsOf v =
     ++ line ordersKey (decimal (v .orders))
     ++ line pixelsKey (decimal (v .pixels))
 
--- all of them, the painted bytes at the start of an array
+-- all seven, the painted bytes at the start of an array
 unfoldable pub linesWith : Fields → List ℕ → List ℕ
-linesWith v target = countsOf v ++ line paintedKey (hexPairs (take (v .painted) target))
+linesWith v target = reportLines v ++ line paintedKey (hexPairs (take (v .painted) target))
 
 -- ---- decoding
 

@@ -5,7 +5,7 @@ ghost use lib.ListN.{length};
 ghost use Rattle.rle.specs.Orders.{refusal};
 ghost use Rattle.rle.specs.Report.{formatIn, refusalIn};
 ghost use Rattle.tile_text.specs.Reply.{decoded, replyOf, Replies, RepliesTo};
-ghost use Rattle.tile_text.specs.Contracts.{Writes, fieldsOf, countsOf, linesWith, Within, Answered};
+ghost use Rattle.tile_text.specs.Contracts.{Writes, fieldsOf, reportLines, linesWith, Within, Answered};
 use crate::parser::Parser;
 use crate::parser::STREAM_LIMIT;
 use crate::parser::WHOLE;
@@ -46,6 +46,7 @@ fn refusal_fields(number: usize) -> Fields
     }
 }
 
+// The decoder's answer in numbers, with the counts.
 fn outcome_fields(outcome: Outcome, orders: usize, pixels: usize, painted: usize) -> Fields
     ensures { λ r. ⌜ r ≡ fieldsOf (formatIn outcome) (refusalIn outcome) orders pixels painted ⌝ }
 {
@@ -61,9 +62,9 @@ fn outcome_fields(outcome: Outcome, orders: usize, pixels: usize, painted: usize
     }
 }
 
-// All lines but the last: at most 171 bytes, with 20 digits for each number.
-fn put_counts(fields: Fields, out: &mut [u8; 131328]) -> usize
-    ensures { λ r. ⌜ Writes (now (out .entry)) 0 (countsOf fields) (now (out .exit)) r ⌝ }
+// The report, which is all lines but the last: at most 171 bytes, with 20 digits for each number.
+fn put_report(fields: Fields, out: &mut [u8; 131328]) -> usize
+    ensures { λ r. ⌜ Writes (now (out .entry)) 0 (reportLines fields) (now (out .exit)) r ⌝ }
     ensures { λ r. ⌜ (r ≤ 171) × (length (now (out .entry)) ≡ 131328) ⌝ }
 {
     let after_format = put_format(fields.format, out, 0);
@@ -80,8 +81,8 @@ fn put_lines(fields: Fields, target: &[u8; 65536], out: &mut [u8; 131328]) -> us
     ensures { λ r. ⌜ Writes (now (out .entry)) 0 (linesWith fields (now (target .entry))) (now (out .exit)) r ⌝ }
     ensures { λ r. ⌜ (r ≤ 131328) × (length (now (out .entry)) ≡ 131328) ⌝ }
 {
-    let after_counts = put_counts(fields, out);
-    put_painted(target, fields.painted, out, after_counts)
+    let after_report = put_report(fields, out);
+    put_painted(target, fields.painted, out, after_report)
 }
 
 // Decodes a tile that is within the limits.

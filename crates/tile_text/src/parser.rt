@@ -1,6 +1,6 @@
 // A tile text, read one byte at a time in bounded memory.
 ghost use mathlib.Core.Path.{_≡_};
-ghost use mathlib.Core.Bool.{true, false};
+ghost use mathlib.Core.Bool.{true};
 ghost use Prim.Native.Nat.{_<_};
 ghost use Rattle.tile_text.specs.Parse as parse;
 

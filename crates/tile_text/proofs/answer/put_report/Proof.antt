@@ -1,11 +1,11 @@
--- `put_counts` meets its contract: the lines, one after the other. Assumes nothing.
+-- `put_report` meets its contract: the lines, one after the other. Assumes nothing.
 use Rattle.tile_text.proofs.Writing.{writes-append}
 use Rattle.tile_text.specs.Answer.{refusalKey, firstKey, secondKey, ordersKey, pixelsKey}
-use Rattle.tile_text.specs.Contracts.{countsOf}
+use Rattle.tile_text.specs.Contracts.{reportLines}
 use borrow.Author.Needs.{needs}
 use native.Mathlib.Omega.{arith}
-use Rattle.tile_text.proofs.answer.put_counts.Statement.{statement}
-use Rattle.tile_text.proofs.answer.put_counts.Tie as tie
+use Rattle.tile_text.proofs.answer.put_report.Statement.{statement}
+use Rattle.tile_text.proofs.answer.put_report.Tie as tie
 
 put-format-requires : tie.Need-put-format-requires
 put-format-requires c κs = search needs
@@ -41,7 +41,7 @@ put-number-requires-5 : tie.Need-put-number-requires-5
 put-number-requires-5 c κs = search needs
 
 returns : tie.Need-returns
-unfolding countsOf refusalKey firstKey secondKey ordersKey pixelsKey
+unfolding reportLines refusalKey firstKey secondKey ordersKey pixelsKey
 returns c =
     let format = c .before .before .before .before .before .before .before .before .before .before .before .before .before .before .before .put-format .ensures in (
       writes-append (writes-append (writes-append (writes-append (writes-append (format .0)
@@ -53,8 +53,8 @@ returns c =
       (omega arith, format .1 .1),
     )
 
-pub put-counts-spec : {M : Type 1} → statement M
-put-counts-spec =
+pub put-report-spec : {M : Type 1} → statement M
+put-report-spec =
     tie.close
     (tie.spec
     put-format-requires
