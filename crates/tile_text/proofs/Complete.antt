@@ -12,7 +12,7 @@ use Rattle.tile_text.specs.Parse.{keys, keyByte, start, withValue, endNu
 use Rattle.tile_text.specs.declared.parser.Parser.{Parser}
 use Rattle.tile_text.proofs.Tests.{by-less}
 use Rattle.tile_text.proofs.Digits.{decimal-value, hex-value, not-line-feed}
-use Rattle.tile_text.proofs.Decimals.{in-small, in-more}
+use Rattle.tile_text.proofs.Printed.{in-small, in-more}
 use Rattle.tile_text.proofs.Steps.{step-number, step-stream}
 use Rattle.tile_text.proofs.Chunks.{fed-append}
 

@@ -1,6 +1,6 @@
 pub mod Tests
 pub mod Digits
-pub mod Decimals
+pub mod Printed
 pub mod Writing
 pub mod Replying
 pub mod Keys

@@ -16,7 +16,7 @@ use Rattle.tile_text.specs.declared.parser.Parser.{Parser}
 use Rattle.tile_text.proofs.Tests.{by-test, by-less}
 use Rattle.tile_text.proofs.Keys.{keyOf, key-over, key-more}
 use Rattle.tile_text.proofs.Digits.{decimal-digit, hex-digit}
-use Rattle.tile_text.proofs.Decimals.{decimal-small, decimal-more, pairs-append}
+use Rattle.tile_text.proofs.Printed.{decimal-small, decimal-more, pairs-append}
 use Rattle.tile_text.proofs.Steps.{clash, going-on, step-key, step-number, step-stream, step-after, key-cases, number-cases, stream-cases, ends-elsewhere, ends-first, ends-second, stored-in, stored-past, stored-not}
 
 -- ---- what is read

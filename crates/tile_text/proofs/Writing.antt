@@ -10,7 +10,7 @@ use lib.ListN.{length, getD, take, drop, set, length-append}
 use lib.Seq.{sets, sets-eq, take-suc, length-take-le, take-all}
 use Rattle.tile_text.specs.Text.{hexDigit, hexPairs, line}
 use Rattle.tile_text.specs.Contracts.{Writes}
-use Rattle.tile_text.proofs.Decimals.{pairs-append}
+use Rattle.tile_text.proofs.Printed.{pairs-append}
 
 sets-append : (l : List ℕ) (i : ℕ) (xs ys : List ℕ) → sets l i (xs ++ ys) ≡ sets (sets l i xs) (i + length xs) ys
 sets-append l i [] ys = rw add-zero

@@ -72,7 +72,8 @@ linesOf e =
 
 -- ---- the answer to a text
 
--- a text that is some tile's has that tile's answer; one that is no tile's is refused with 9
+-- a text that is some tile's has that tile's answer; one that is no tile's is refused with 9. A text has one answer: `answer-unique`,
+-- proofs/Unique.antt
 pub data Answers (text : List ℕ) (e : Result) : Type 0 where
   tile : (w h b : ℕ) (stream : List ℕ) → Tile w h b stream → text ≡ textOf w h b stream → e ≡ answerOf w h b stream → Answers text e
   noTile : ((w h b : ℕ) (stream : List ℕ) → Tile w h b stream → text ≡ textOf w h b stream → ⊥) → e ≡ badTileText → Answers text e

@@ -20,6 +20,15 @@ fn put_bytes(bytes: &[u8], out: &mut [u8], at: usize) -> usize
     at + i
 }
 
+fn put_line_feed(out: &mut [u8; 131328], at: usize) -> usize
+    requires { ⌜ at < 131328 ⌝ }
+    ensures { λ r. ⌜ Writes (now (out .entry)) at (10 ∷ []) (now (out .exit)) r ⌝ }
+{
+    out[at] = b'\n';
+    at + 1
+}
+
+// A decimal digit.
 fn put_digit(d: usize, out: &mut [u8; 131328], at: usize) -> usize
     requires { ⌜ (d < 10) × (at < 131328) ⌝ }
     ensures { λ r. ⌜ Writes (now (out .entry)) at ((48 + d) ∷ []) (now (out .exit)) r ⌝ }
@@ -78,7 +87,7 @@ pub(crate) fn put_number(key: &[u8], n: usize, out: &mut [u8; 131328], at: usize
 {
     let after_key = put_bytes(key, out, at);
     let after_number = put_decimal(n, out, after_key);
-    put_bytes(b"\n", out, after_number)
+    put_line_feed(out, after_number)
 }
 
 // At most 23 bytes: three letters and 20 digits.
@@ -102,7 +111,7 @@ pub(crate) fn put_format(format: usize, out: &mut [u8; 131328], at: usize) -> us
 {
     let after_key = put_bytes(b"format=", out, at);
     let after_name = put_name(format, out, after_key);
-    put_bytes(b"\n", out, after_name)
+    put_line_feed(out, after_name)
 }
 
 // The line of the painted bytes: the first n.
@@ -113,5 +122,5 @@ pub(crate) fn put_painted(bytes: &[u8], n: usize, out: &mut [u8; 131328], at: us
 {
     let after_key = put_bytes(b"painted=", out, at);
     let after_pairs = put_pairs(bytes, n, out, after_key);
-    put_bytes(b"\n", out, after_pairs)
+    put_line_feed(out, after_pairs)
 }

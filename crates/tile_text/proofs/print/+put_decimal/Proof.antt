@@ -5,7 +5,7 @@ use Prim.Native.Nat.{ℕ, _^_, _<_}
 use native.Mathlib.Omega.{arith}
 use borrow.Fn.Kinds.{In}
 use borrow.Fn.PlainCycle.{Measures, is, falls, and}
-use Rattle.tile_text.proofs.Decimals.{decimal-small, decimal-more, tenth-length}
+use Rattle.tile_text.proofs.Printed.{decimal-small, decimal-more, tenth-length}
 use Rattle.tile_text.proofs.Writing.{writes-as, writes-append}
 use Rattle.tile_text.proofs.print.put_digit.Reads as put-digit-reads
 use Rattle.tile_text.proofs.print.put_decimal.Reads as put-decimal

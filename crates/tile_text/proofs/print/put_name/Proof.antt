@@ -2,7 +2,7 @@
 use borrow.Author.Tests.{eq-eqb, ne-eqb}
 use Rattle.tile_text.specs.Answer.{formatName}
 use Rattle.tile_text.proofs.Writing.{writes-append}
-use Rattle.tile_text.proofs.Decimals.{decimal-length}
+use Rattle.tile_text.proofs.Printed.{decimal-length}
 use borrow.Author.Needs.{needs}
 use native.Mathlib.Omega.{arith}
 use Rattle.tile_text.proofs.print.put_name.Statement.{statement}

@@ -1,4 +1,4 @@
--- Numbers in decimal and bytes in hexadecimal: how long they are, and one digit or one byte more. Assumes nothing.
+-- Numbers in decimal and bytes in hexadecimal, as they are printed: how long they are, and one digit or one byte more. Assumes nothing.
 use mathlib.Core.Path.{_≡_, refl, _∙_, ap, sym}
 use mathlib.Core.List.{List, [], _∷_, _++_}
 use Prim.Native.Nat.{ℕ, zero, suc, _+_, _*_, _/_, _%_, _^_, _<_, _≤_}
