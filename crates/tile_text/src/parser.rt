@@ -34,10 +34,11 @@ const NO_DIGIT: usize = 16;
 // The keys, seven places each; 0: the key is read.
 const KEYS: [u8; 28] = *b"width=\0height=bpp=\0\0\0stream=";
 
-fn wide(x: u8) -> usize
-    ensures { λ r. ⌜ (r ≡ x) × (r < 256) ⌝ }
+// A byte as a number.
+fn wide(b: u8) -> usize
+    ensures { λ r. ⌜ r ≡ b ⌝ }
 {
-    x as usize
+    b as usize
 }
 
 // The byte at a place of a line's key; 0: the key is read, or there is no such line.

@@ -24,7 +24,7 @@ wide-requires : tie.Need-wide-requires
 wide-requires c κs = search needs
 
 returns-3 : tie.Need-returns-3
-returns-3 c = c .wide .ensures .0 ∙ key-in-table _ _ (c .before .before .if1 .left) (c .before .if2 .left)
+returns-3 c = c .wide .ensures ∙ key-in-table _ _ (c .before .before .if1 .left) (c .before .if2 .left)
 
 pub key-byte-spec : {M : Type 1} → statement M
 key-byte-spec =
