@@ -19,7 +19,7 @@ use Rattle.tile_text.specs.Reply.{decoded, replyOf, Replies}
 use Rattle.tile_text.specs.Contracts.{Writes, fieldsOf, reportLines, linesWith, Within, Answered}
 use Rattle.tile_text.specs.declared.parser.Parser.{Parser}
 use Rattle.tile_text.specs.declared.answer.Fields.{Fields}
-use Rattle.tile_text.proofs.Tests.{apart}
+use Rattle.tile_text.proofs.Tests.{apart, by-less}
 use Rattle.tile_text.proofs.Writing.{writes-as, from-start}
 
 -- ---- refusals before the stream
@@ -51,15 +51,13 @@ module _ (p : Parser) (stream xs : List ℕ) (v : Fields) where
         rw (eq-eqb _ _ whole, ← s, away-result (checked (p .bpp) (p .width) (p .height)) r (take (p .count) stream) s) (nothing-painted r xs v e)
 
     module _ (n : ℕ) (size : bytes n ≡ sizeOf (checked (p .bpp) (p .width) (p .height))) where
-      pub answered-picture : 65536 < n → v ≡ fieldsOf 0 (refusal 10 0 0) 0 0 0 → Answered (replyOf p stream) xs xs v
+      -- the picture is over its limit, or else the stream is
+      pub answered-large : (n ≤ 65536 → 8192 < p .count) → v ≡ fieldsOf 0 (refusal 10 0 0) 0 0 0 → Answered (replyOf p stream) xs xs v
       unfolding replyOf tileTooLarge
-      answered-picture h e =
-          rw (eq-eqb _ _ whole, fit-limited _ n (p .count) (decoded p stream) size, lt-ltb _ _ h) (nothing-painted (refusal 10 0 0) xs v e)
-
-      pub answered-stream : n ≤ 65536 → 8192 < p .count → v ≡ fieldsOf 0 (refusal 10 0 0) 0 0 0 → Answered (replyOf p stream) xs xs v
-      unfolding replyOf tileTooLarge
-      answered-stream h g e =
-          rw (eq-eqb _ _ whole, fit-limited _ n (p .count) (decoded p stream) size, le-ltb _ _ h, lt-ltb _ _ g) (nothing-painted (refusal 10 0 0) xs v e)
+      answered-large over e =
+          let refused = nothing-painted (refusal 10 0 0) xs v e in
+          rw (eq-eqb _ _ whole, fit-limited _ n (p .count) (decoded p stream) size)
+          (by-less 65536 n (λ h. rw (lt-ltb _ _ h) refused) (λ h. rw (le-ltb _ _ h, lt-ltb _ _ (over h)) refused))
 
       pub answered-decoded : {ys : List ℕ} → n ≤ 65536 → p .count ≤ 8192 → Answered (decoded p stream) xs ys v → Answered (replyOf p stream) xs ys v
       unfolding replyOf

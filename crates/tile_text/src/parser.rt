@@ -34,7 +34,7 @@ const NO_DIGIT: usize = 16;
 // The keys, seven places each; 0: the key is read.
 const KEYS: [u8; 28] = *b"width=\0height=bpp=\0\0\0stream=";
 
-// A byte as a number.
+// A byte as a number: as an argument, unlike an element, it is known to be below 256.
 fn wide(b: u8) -> usize
     ensures { λ r. ⌜ r ≡ b ⌝ }
 {

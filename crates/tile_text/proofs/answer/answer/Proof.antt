@@ -1,5 +1,5 @@
 -- `answer` meets its contract: its tests are the definition's, in the definition's order. Assumes nothing.
-use Rattle.tile_text.proofs.Replying.{answered-bad, answered-refused, answered-picture, answered-stream, answered-decoded}
+use Rattle.tile_text.proofs.Replying.{answered-bad, answered-refused, answered-large, answered-decoded}
 use borrow.Author.Needs.{needs}
 use native.Mathlib.Omega.{arith}
 use Rattle.tile_text.proofs.answer.answer.Statement.{statement}
@@ -27,22 +27,36 @@ refusal-fields-requires-2 : tie.Need-refusal-fields-requires-2
 refusal-fields-requires-2 c κs = search needs
 
 returns-2 : tie.Need-returns-2
-returns-2 c = answered-picture _ _ _ _ (c .before .before .before .before .before .before .if1 .left) _ (rw (c .before .before .before .size2 .given .1) at (c .before .before .before .before .before .picture-size .ensures)) (c .before .if2 .taken) (c .refusal-fields2 .ensures)
+returns-2 c =
+    let whole = c .before .before .before .before .before .before .if1 .left in
+    let size = rw (c .before .before .before .size2 .given .1) at (c .before .before .before .before .before .picture-size .ensures) in
+    answered-large _ _ _ _ whole _ size (λ fits. absurd (omega (arith, c .before .if2 .taken))) (c .refusal-fields2 .ensures)
 
 refusal-fields-requires-3 : tie.Need-refusal-fields-requires-3
 refusal-fields-requires-3 c κs = search needs
 
 returns-3 : tie.Need-returns-3
-returns-3 c = answered-stream _ _ _ _ (c .before .before .before .before .before .before .before .before .if1 .left) _ (rw (c .before .before .before .before .before .size2 .given .1) at (c .before .before .before .before .before .before .before .picture-size .ensures)) (c .before .before .before .if2 .left) (c .before .if3 .taken) (c .refusal-fields3 .ensures)
+returns-3 c =
+    let whole = c .before .before .before .before .before .before .before .before .if1 .left in
+    let size = rw (c .before .before .before .before .before .size2 .given .1) at (c .before .before .before .before .before .before .before .picture-size .ensures) in
+    answered-large _ _ _ _ whole _ size (λ _. c .before .if3 .taken) (c .refusal-fields3 .ensures)
 
 decode-requires : tie.Need-decode-requires
-decode-requires c κs = record { size = _; picture = rw (c .before .before .before .before .before .before .size2 .given .1) at (c .before .before .before .before .before .before .before .before .picture-size .ensures); small = c .before .before .before .before .if2 .left; count = omega (arith, c .before .decode-arg .given .0); space = c .decode-arg2 .given .0 .1 }
+decode-requires c κs =
+    let size = rw (c .before .before .before .before .before .before .size2 .given .1) at (c .before .before .before .before .before .before .before .before .picture-size .ensures) in
+    record { size = _; picture = size; small = c .before .before .before .before .if2 .left; count = omega (arith, c .before .decode-arg .given .0); space = c .decode-arg2 .given .0 .1 }
 
 returns-4 : tie.Need-returns-4
-returns-4 c = answered-refused _ _ _ _ (c .before .before .before .before .before .if1 .left) _ (rw (c .before .before .size .given .1) at (c .before .before .before .before .picture-size .ensures)) (c .outcome-fields .ensures)
+returns-4 c =
+    let whole = c .before .before .before .before .before .if1 .left in
+    let size = rw (c .before .before .size .given .1) at (c .before .before .before .before .picture-size .ensures) in
+    answered-refused _ _ _ _ whole _ size (c .outcome-fields .ensures)
 
 returns-5 : tie.Need-returns-5
-returns-5 c = answered-decoded _ _ _ _ (c .before .before .before .before .before .before .before .before .before .before .if1 .left) _ (rw (c .before .before .before .before .before .before .before .size2 .given .1) at (c .before .before .before .before .before .before .before .before .before .picture-size .ensures)) (c .before .before .before .before .before .if2 .left) (c .before .before .before .if3 .left) (c .decode .ensures)
+returns-5 c =
+    let whole = c .before .before .before .before .before .before .before .before .before .before .if1 .left in
+    let size = rw (c .before .before .before .before .before .before .before .size2 .given .1) at (c .before .before .before .before .before .before .before .before .before .picture-size .ensures) in
+    answered-decoded _ _ _ _ whole _ size (c .before .before .before .before .before .if2 .left) (c .before .before .before .if3 .left) (c .decode .ensures)
 
 pub answer-spec : {M : Type 1} → statement M
 answer-spec =
