@@ -6,7 +6,7 @@ use Prim.Native.Nat.{ℕ, zero, suc, _+_, _*_, _/_, _%_, _^_, _<_}
 use native.Mathlib.Omega.{arith}
 use native.Mathlib.Nat.{pow-suc}
 use borrow.Author.Tests.{ne-eqb, lt-ltb}
-use Rattle.rle.specs.Pixels.{pick}
+use Rattle.picture.specs.Pixels.{pick}
 use Rattle.tile_text.specs.Text.{decimalIn, decimal, hexDigit, hexPairs, widthKey, heightKey, bppKey, streamKey, line, textOf, Bytes, Tile}
 use Rattle.tile_text.specs.Parse.{keys, keyByte, start, withValue, endNumber, countMore, byteRead, goesOn, numberDigit, numberStep, streamStep, keyStep, step, fed}
 use Rattle.tile_text.specs.declared.parser.Parser.{Parser}

@@ -8,12 +8,13 @@ use lib.Dec.{ltb}
 use lib.ListN.{length, take, length-append, length-drop}
 use lib.Seq.{take-append-seam}
 use borrow.Author.Tests.{eq-eqb, ne-eqb, lt-ltb, le-ltb}
-use Rattle.rle.specs.Pixels.{pick, bytesOf}
-use Rattle.rle.specs.Orders.{Refusal, refusal}
-use Rattle.rle.specs.Decode.{Result, Checked, away, fit, Run, ended, paused, stopped, Frame, checked, withSpace, ofChecked, ofRun, resultOf, decode, result, resultIn, fitOf, depthOf}
-use Rattle.rle.specs.Report.{bytes, refused, sizeOf, refusalIn, formatIn, Decompresses}
+use Rattle.picture.specs.Pixels.{pick, bytesOf}
+use Rattle.picture.specs.Sizes.{Refusal, refusal, Checked, away, fit, Frame, checked, withSpace, fitOf, depthOf, bytes, refused, sizeOf}
+use Rattle.rle.specs.Decode.{Result, Run, ended, paused, stopped, ofChecked, ofRun, resultOf, decode, result, resultIn}
+use Rattle.picture.specs.Outcomes.{refusalIn, formatIn}
+use Rattle.rle.specs.Report.{Agrees, Decompresses}
 use Rattle.rle.specs.declared.report.Report.{Report}
-use Rattle.rle.proofs.Calls.{sized}
+use Rattle.picture.proofs.Sizes.{sized}
 use Rattle.tile_text.specs.Answer.{refusedWith, badTileText, tileTooLarge, limited, linesOf}
 use Rattle.tile_text.specs.Reply.{decoded, replyOf, Replies}
 use Rattle.tile_text.specs.Contracts.{Writes, fieldsOf, reportLines, linesWith, Within, Answered}
@@ -85,15 +86,15 @@ unfolding result ofChecked fitOf
 fit-bytes b w h n stream e = rw (sized b w h n e .checks) (run-bytes _ _ (decode _ stream))
 
 module _ (p : Parser) (stream before after : List ℕ) (r : Report) (within : Within p stream before) where
-  decodes : Decompresses (take (p .count) stream) before after r (resultIn (length before) (take (p .count) stream) (p .bpp) (p .width) (p .height))
-      → Decompresses (take (p .count) stream) before after r (decoded p stream)
+  decodes : Decompresses (take (p .count) stream) (p .bpp) (p .width) (p .height) before after r
+      → Agrees (take (p .count) stream) before after (p .width * p .height) r (decoded p stream)
   unfolding resultIn decoded result
   decodes d =
       let g : within .size ≤ length before = omega (arith, within .small, within .space) in
       rw (fit-space (checked (p .bpp) (p .width) (p .height)) (within .size) (length before) (within .picture) g) at d
 
   module _ (D : ℕ) (depth : D ≡ depthOf (p .bpp) .bytes) (same : length after ≡ length before)
-      (d : Decompresses (take (p .count) stream) before after r (resultIn (length before) (take (p .count) stream) (p .bpp) (p .width) (p .height))) where
+      (d : Decompresses (take (p .count) stream) (p .bpp) (p .width) (p .height) before after r) where
     -- the painted bytes are D for each pixel
     painted-bytes : length (bytesOf (decoded p stream .bytes) (decoded p stream .painted)) ≡ r .pixels * D
     unfolding decoded

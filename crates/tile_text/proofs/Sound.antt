@@ -9,7 +9,7 @@ use lib.Dec.{ltb, eqb}
 use lib.ListN.{length, getD, take, set, length-append, length-set, List·getD-append}
 use lib.Seq.{getD-set-same, getD-set-other, getD-append-seam}
 use borrow.Author.Tests.{ltb-true, ltb-false, eqb-true, eqb-false}
-use Rattle.rle.specs.Pixels.{pick}
+use Rattle.picture.specs.Pixels.{pick}
 use Rattle.tile_text.specs.Text.{decimal, hexDigit, hexPairs, widthKey, heightKey, bppKey, streamKey, line, textOf, Bytes}
 use Rattle.tile_text.specs.Parse.{keys, keyByte, decimalValue, hexValue, start, onLine, bad, keyRead, withValue, nextLine, endNumber, countMore, byteRead, goesOn, numberDigit, step, endsByte, stored, fed, fedInto}
 use Rattle.tile_text.specs.declared.parser.Parser.{Parser}

@@ -5,7 +5,7 @@ use Prim.Native.Nat.{ℕ, zero, suc, _<_, _≤_}
 use native.Mathlib.Omega.{arith}
 use native.Mathlib.Decide.{decLt}
 use lib.Dec.{T}
-use Rattle.rle.specs.Pixels.{pick}
+use Rattle.picture.specs.Pixels.{pick}
 
 -- what holds of each way of a test holds of the choice
 pub by-test : {A : Type 0} (Q : A → Type 0) (t : Bool) {a b : A} → (t ≡ true → Q a) → (t ≡ false → Q b) → Q (pick t a b)

@@ -6,10 +6,9 @@ use mathlib.Core.List.{List, [], _∷_, _++_}
 use Prim.Native.Nat.{ℕ}
 use lib.Dec.{ltb, eqb}
 use lib.ListN.{length}
-use Rattle.rle.specs.Pixels.{pick, bytesOf}
-use Rattle.rle.specs.Orders.{Refusal, refusal}
-use Rattle.rle.specs.Decode.{Result, checked, result}
-use Rattle.rle.specs.Report.{Size, bytes, refused, sizeOf}
+use Rattle.picture.specs.Pixels.{pick, bytesOf}
+use Rattle.picture.specs.Sizes.{Refusal, refusal, checked, Size, bytes, refused, sizeOf}
+use Rattle.rle.specs.Decode.{Result, result}
 use Rattle.tile_text.specs.Text.{decimal, hexPairs, line, textOf, Tile}
 
 -- a refusal that decodes nothing: the counts are 0, and no byte is painted

@@ -3,10 +3,10 @@
 use mathlib.Core.Path.{_≡_, refl}
 use mathlib.Core.List.{List, [], _∷_, map}
 use Prim.Native.Nat.{ℕ}
-use Rattle.rle.specs.Pixels as Pixels
+use Rattle.picture.specs.Pixels as Pixels
+use Rattle.picture.specs.Sizes as Sizes
 use Rattle.rle.specs.Orders as Orders
 use Rattle.rle.specs.Decode as Decode
-use Rattle.rle.specs.Report as Report
 use Rattle.tile_text.specs.Text as Text
 use Rattle.tile_text.specs.Answer as Answer
 use Rattle.tile_text.specs.Text.{textOf}
@@ -30,7 +30,7 @@ unfolding textOf Text.line Text.decimal Text.decimalIn Text.hexPairs Text.hexDig
 case-text = refl
 
 pub case-lines : linesOf (answerOf 4 2 8 (2 ∷ 2 ∷ [])) ≡ lines
-unfolding answerOf linesOf formatName Answer.limited Answer.formatKey Answer.refusalKey Answer.firstKey Answer.secondKey Answer.ordersKey Answer.pixelsKey Answer.paintedKey Text.line Text.decimal Text.decimalIn Text.hexPairs Text.hexDigit Report.sizeOf
+unfolding answerOf linesOf formatName Answer.limited Answer.formatKey Answer.refusalKey Answer.firstKey Answer.secondKey Answer.ordersKey Answer.pixelsKey Answer.paintedKey Text.line Text.decimal Text.decimalIn Text.hexPairs Text.hexDigit Sizes.sizeOf
     Pixels.firstPixel
     Pixels.bytesOf
     Pixels.xorPixel
@@ -67,11 +67,11 @@ unfolding answerOf linesOf formatName Answer.limited Answer.formatKey Answer.ref
     Decode.thenRun
     Decode.run
     Decode.decode
-    Decode.depths
-    Decode.depthIndex
-    Decode.depthOf
-    Decode.fitOf
-    Decode.checked
+    Sizes.depths
+    Sizes.depthIndex
+    Sizes.depthOf
+    Sizes.fitOf
+    Sizes.checked
     Decode.resultOf
     Decode.ofRun
     Decode.ofChecked

@@ -5,10 +5,9 @@ use mathlib.Core.List.{List, _++_}
 use Prim.Native.Nat.{ℕ, _+_, _*_, _≤_}
 use lib.ListN.{length, take, drop}
 use lib.Seq.{sets}
-use Rattle.rle.specs.Pixels.{bytesOf}
-use Rattle.rle.specs.Orders.{Refusal}
-use Rattle.rle.specs.Decode.{Result, checked}
-use Rattle.rle.specs.Report.{bytes, sizeOf}
+use Rattle.picture.specs.Pixels.{bytesOf}
+use Rattle.picture.specs.Sizes.{Refusal, checked, bytes, sizeOf}
+use Rattle.rle.specs.Decode.{Result}
 use Rattle.tile_text.specs.Text.{decimal, hexPairs, line}
 use Rattle.tile_text.specs.Answer.{formatName, formatKey, refusalKey, firstKey, secondKey, ordersKey, pixelsKey, paintedKey}
 use Rattle.tile_text.specs.declared.parser.Parser.{Parser}

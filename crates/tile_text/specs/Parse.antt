@@ -6,7 +6,7 @@ use mathlib.Core.Bool.{Bool, true, false}
 use Prim.Native.Nat.{ℕ, _+_, _-_, _*_, _%_}
 use lib.Dec.{ltb, leb, eqb}
 use lib.ListN.{getD, set}
-use Rattle.rle.specs.Pixels.{pick}
+use Rattle.picture.specs.Pixels.{pick}
 use Rattle.tile_text.specs.Text.{widthKey, heightKey, bppKey, streamKey}
 use Rattle.tile_text.specs.declared.parser.Parser.{Parser}
 

@@ -5,9 +5,9 @@ use mathlib.Core.List.{List, _++_}
 use Prim.Native.Nat.{ℕ, _*_, _≤_}
 use lib.Dec.{eqb}
 use lib.ListN.{length, take, drop}
-use Rattle.rle.specs.Pixels.{pick, bytesOf}
-use Rattle.rle.specs.Decode.{Result, checked, result}
-use Rattle.rle.specs.Report.{sizeOf}
+use Rattle.picture.specs.Pixels.{pick, bytesOf}
+use Rattle.picture.specs.Sizes.{checked, sizeOf}
+use Rattle.rle.specs.Decode.{Result, result}
 use Rattle.tile_text.specs.Answer.{badTileText, limited, linesOf, Answers}
 use Rattle.tile_text.specs.declared.parser.Parser.{Parser}
 

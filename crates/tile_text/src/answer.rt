@@ -2,8 +2,8 @@
 ghost use mathlib.Core.Path.{_≡_};
 ghost use Prim.Native.Nat.{_≤_};
 ghost use lib.ListN.{length};
-ghost use Rattle.rle.specs.Orders.{refusal};
-ghost use Rattle.rle.specs.Report.{formatIn, refusalIn};
+ghost use Rattle.picture.specs.Sizes.{refusal};
+ghost use Rattle.picture.specs.Outcomes.{formatIn, refusalIn};
 ghost use Rattle.tile_text.specs.Reply.{decoded, replyOf, Replies, RepliesTo};
 ghost use Rattle.tile_text.specs.Contracts.{Writes, fieldsOf, reportLines, linesWith, Within, Answered};
 use crate::parser::Parser;
@@ -14,8 +14,8 @@ use crate::parser::start;
 use crate::print::put_format;
 use crate::print::put_number;
 use crate::print::put_painted;
-use rle::Outcome;
-use rle::PictureSize;
+use picture::Outcome;
+use picture::PictureSize;
 
 // The most bytes of a picture that is decoded.
 const PICTURE_LIMIT: usize = 65536;
@@ -50,7 +50,7 @@ fn refusal_fields(number: usize) -> Fields
 fn outcome_fields(outcome: Outcome, orders: usize, pixels: usize, painted: usize) -> Fields
     ensures { λ r. ⌜ r ≡ fieldsOf (formatIn outcome) (refusalIn outcome) orders pixels painted ⌝ }
 {
-    let numbers = rle::numbers_of(outcome);
+    let numbers = picture::numbers_of(outcome);
     Fields {
         format: numbers.format,
         refusal: numbers.refusal,
@@ -91,7 +91,7 @@ fn decode(p: Parser, stream: &[u8], target: &mut [u8]) -> Fields
     ensures { λ r. ⌜ Answered (decoded p (now (stream .entry))) (now (target .entry)) (now (target .exit)) r ⌝ }
 {
     let report = rle::decompress(&stream[..p.count], target, p.width, p.height, p.bpp);
-    let painted = report.pixels * rle::bytes_per_pixel(p.bpp);
+    let painted = report.pixels * picture::bytes_per_pixel(p.bpp);
     let outcome = report.outcome;
     outcome_fields(outcome, report.orders, report.pixels, painted)
 }
@@ -103,7 +103,7 @@ fn answer(p: Parser, stream: &[u8; 8192], target: &mut [u8; 65536]) -> Fields
     if p.line != WHOLE {
         return refusal_fields(9);
     }
-    let size = rle::picture_size(p.width, p.height, p.bpp);
+    let size = picture::picture_size(p.width, p.height, p.bpp);
     match size {
         PictureSize::Refused(e) => outcome_fields(Outcome::Err(e), 0, 0, 0),
         PictureSize::Bytes(n) => {
