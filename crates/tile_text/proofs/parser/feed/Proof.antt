@@ -3,7 +3,7 @@ use mathlib.Core.Path.{_≡_, refl}
 use Prim.Native.Nat.{_≤_, _-_}
 use lib.ListN.{length, take}
 use lib.Seq.{take-all}
-use Rattle.tile_text.specs.Parse.{fed, fedInto, step}
+use Rattle.tile_text.specs.Parse.{fed, fedInto}
 use Rattle.tile_text.proofs.Chunks.{fed-more, into-more}
 use borrow.Author.Needs.{needs}
 use native.Mathlib.Omega.{arith}
