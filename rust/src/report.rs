@@ -7,7 +7,8 @@ use crate::rle::{RleError, RlePixelFormat};
 
 /// What came out of one call of [`decompress_into`](crate::decompress_into).
 ///
-/// `orders` ≤ `pixels` always holds, and `pixels` is at most 26,214 times the stream's length.
+/// `orders` ≤ `pixels` ≤ width × height always holds, and `pixels` is at most 26,214 times the
+/// stream's length.
 #[derive(Clone, Debug, PartialEq, Eq)]
 #[must_use = "a refused or short stream leaves old pixels in the target"]
 pub struct Report {
