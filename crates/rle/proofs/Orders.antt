@@ -18,7 +18,7 @@ use Rattle.picture.specs.Pixels.{Pixel, firstPixel, pixelAt, OfDepth}
 use Rattle.rle.specs.Orders.{Kind, NoOrder, Row, kindOf, kindRow, rows, noRow, row}
 use Rattle.picture.specs.Sizes.{Frame}
 use Rattle.rle.specs.Decode.{Ink, solid, fgInk, bgInk, insertInk, maskInk, ditherInk, State, Step, room, tooLarge, tooShort, needBytes, paintOrder, completed, withPainted, withLeft, withForeground, fgRun, setForeground, colorRun, ditheredRun, colorImage, oneMask, orderOf}
-use Rattle.rle.specs.Contracts.{Paintable, Painted, Framed, Sound, Did, frameOf, stateOf, inkOf, reach, rowAbove, fgMode, bgMode, fgOf, bgOf, withFg, atPos, advancedBy, completedOf, refusedOf, tooLargeOf}
+use Rattle.rle.specs.Contracts.{HasPlace, Paintable, Painted, Framed, Sound, Did, frameOf, stateOf, inkOf, reach, rowAbove, fgMode, bgMode, fgOf, bgOf, withFg, atPos, advancedBy, completedOf, refusedOf, tooLargeOf}
 use Rattle.rle.proofs.Pixels.{length-pixelsOf}
 use Rattle.rle.proofs.Painting.{of-depth, painted-as}
 
@@ -30,20 +30,23 @@ did-as e d = record { is = d .is ∙ e; rest = d .rest; grows = d .grows; reads 
 
 -- ---- painting
 
--- n pixels can be painted
-pub paintable : {f : Frame} {size : ℕ} {s : CodeState} (dst : List ℕ) (n : ℕ) (ink : CodeInk) → Framed (length dst) f → Sound f size s
-    → n ≤ f .total - s .pixels → reach (ink .mode) (f .width) ≤ s .pixels → OfDepth (f .bytes) (ink .pixel)
-    → Paintable (f .bytes) (f .width) (s .pixels) n dst ink
-paintable {f} {s = s} dst n ink frame sound h r e =
+-- n pixels have a place, and can be painted
+pub has-place : {f : Frame} {size : ℕ} {s : CodeState} (dst : List ℕ) (n : ℕ) → Framed (length dst) f → Sound f size s → n ≤ f .total - s .pixels
+    → HasPlace (f .bytes) (s .pixels) n dst
+has-place {f} {s = s} dst n frame sound h =
     record {
       low = frame .low;
       high = frame .high;
-      wide = frame .wide;
       fits =
           omega (arith, frame .fits, sound .within, mul-le-mul-right {m = s .pixels + n} {n = f .total} (f .bytes) (omega (arith, sound .within)));
-      row = r;
-      pixel = e;
     }
+
+pub paintable : {f : Frame} {size : ℕ} {s : CodeState} (dst : List ℕ) (n : ℕ) (ink : CodeInk) → Framed (length dst) f → Sound f size s
+    → n ≤ f .total - s .pixels → reach (ink .mode) (f .width) ≤ s .pixels → OfDepth (f .bytes) (ink .pixel)
+    → Paintable (f .bytes) (f .width) (s .pixels) n dst ink
+paintable dst n ink frame sound h r e =
+    let p = has-place dst n frame sound h in
+    record { low = p .low; high = p .high; wide = frame .wide; fits = p .fits; row = r; pixel = e }
 
 -- the row above is there where the state's two inks look at it
 pub fg-row : {f : Frame} {size : ℕ} {s : CodeState} → Sound f size s → reach (fgMode (s .«first_row»)) (f .width) ≤ s .pixels

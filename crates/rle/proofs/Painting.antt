@@ -16,7 +16,7 @@ use Rattle.rle.specs.declared.paint.Mode.the-variants.{Solid, Above, Abo
 use Rattle.rle.specs.declared.paint.Ink.{Ink as CodeInk}
 use Rattle.picture.specs.Pixels.{Pixel, pick, firstPixel, pixelAt, xorPixel, OfDepth}
 use Rattle.rle.specs.Decode.{Ink, solid, color, paint, pixelAbove, insertInk, maskInk, ditherInk}
-use Rattle.rle.specs.Contracts.{pixelsOf, storePixel, Paintable, PaintedOne, Painted, reach, inkOf, solidInk}
+use Rattle.rle.specs.Contracts.{pixelsOf, storePixel, HasPlace, Paintable, PaintedOne, Painted, reach, inkOf, solidInk}
 use Rattle.picture.proofs.Pixels.{first-pixel-cong, getD-first-pixel, length-first-pixel}
 use Rattle.rle.proofs.Pixels.{length-pixelsOf, getD-pixelsOf, store-before, store-there, store-after}
 
@@ -194,9 +194,6 @@ front {D} {w} {k} {m} n r h =
 pub with-ink : {D w k n : ℕ} {xs : List ℕ} {i j : CodeInk} → i ≡ j → Paintable D w k n xs j → Paintable D w k n xs i
 with-ink {D} {w} {k} {n} {xs} e r = subst (λ (x : CodeInk). Paintable D w k n xs x) (sym e) r
 
-pub with-color : {D w k n : ℕ} {xs : List ℕ} {p q : Pixel} → OfDepth D q → Paintable D w k n xs (solidInk p) → Paintable D w k n xs (solidInk q)
-with-color e r = record { low = r .low; high = r .high; wide = r .wide; fits = r .fits; row = zero-le; pixel = e }
-
 -- ---- a background run
 
 pub insert-none : {insert : Bool} (fg bg : Ink) (j : ℕ) → insert ≡ false → bg ≡ insertInk insert fg bg j
@@ -240,28 +237,26 @@ pub turn-pixel : (D : ℕ) (a b : Pixel) (t : Bool) → OfDepth D a → OfDepth 
 turn-pixel D a b true p q = p
 turn-pixel D a b false p q = q
 
-pub turn-ink : {x : CodeInk} (a b : Pixel) (j : ℕ) → x ≡ solidInk (pick (eqb (j % 2) 0) a b) → inkOf x ≡ ditherInk a b j
-unfolding ditherInk
-turn-ink a b j e = ap (λ (y : CodeInk). inkOf y) e
+-- ---- pixels in one color each, for which the row above does not matter
 
-pub image-ink : {x : CodeInk} (D : ℕ) (src : List ℕ) (a j : ℕ) (p : Pixel) → x ≡ solidInk p → p ≡ firstPixel D (drop (a + j * D) src)
-    → inkOf x ≡ solid (pixelAt D (drop a src) j)
+pub one-stored : {D k : ℕ} {xs ys : List ℕ} {p : Pixel} {ink : Ink} → 1 ≤ D → D ≤ 3 → (k + 1) * D ≤ length xs → OfDepth D p → solid p ≡ ink
+    → ys ≡ storePixel D xs (k * D) p → (w : ℕ) → PaintedOne D w ink k xs ys
+unfolding color
+one-stored {D} {k} {xs} {ys} {p} low high fits of i e w =
+    one-as i (painted-one-of D w k xs ys p (solid p) low high fits of refl e)
+
+-- pixel i of n has its place
+pub one-place : {D k n : ℕ} {xs : List ℕ} (ys : List ℕ) (i : ℕ) → HasPlace D k n xs → i < n → length ys ≡ length xs → (k + i + 1) * D ≤ length ys
+one-place {D} {k} {n} ys i p h e = omega (arith, p .fits, mul-le-mul-right {m = k + i + 1} {n = k + n} D (omega arith))
+
+pub dither-solid : {p : Pixel} (a b : Pixel) (j : ℕ) → p ≡ pick (eqb (j % 2) 0) a b → solid p ≡ ditherInk a b j
+unfolding ditherInk
+dither-solid a b j e = ap solid e
+
+pub image-solid : {p : Pixel} (D : ℕ) (src : List ℕ) (a j : ℕ) → p ≡ firstPixel D (drop (a + j * D) src)
+    → solid p ≡ solid (pixelAt D (drop a src) j)
 unfolding pixelAt
-image-ink D src a j p x e =
-    ap (λ (y : CodeInk). inkOf y) x ∙ ap solid (e ∙ ap (λ (l : List ℕ). firstPixel D l) (sym (drop-drop (j * D) a src)))
+image-solid D src a j e = ap solid (e ∙ ap (λ (l : List ℕ). firstPixel D l) (sym (drop-drop (j * D) a src)))
 
 pub image-fits : (D n j : ℕ) → j < n → j * D + D ≤ n * D
 image-fits D n j h = omega (arith, mul-le-mul-right {m = j + 1} {n = n} D (omega arith))
-
--- pixel i of the n pixels from number k on, in one color
-pub solid-part : {D w i : ℕ} {p : Pixel} (k n : ℕ) (xs ys : List ℕ) → 1 ≤ D → D ≤ 3 → 1 ≤ w → (k + n) * D ≤ length xs → i < n → length ys ≡ length xs
-    → OfDepth D p → Paintable D w (k + i) 1 ys (solidInk p)
-solid-part {D} {w} {i} k n xs ys low high wide fits h e of =
-    record {
-      low = low;
-      high = high;
-      wide = wide;
-      fits = omega (arith, mul-le-mul-right {m = k + i + 1} {n = k + n} D (omega arith));
-      row = zero-le;
-      pixel = of;
-    }

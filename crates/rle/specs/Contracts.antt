@@ -72,6 +72,12 @@ reach Solid w = 0
 reach Above w = w
 reach AboveXor w = w
 
+-- n pixels of D bytes from number k on have a place in xs
+pub record HasPlace (D k n : ℕ) (xs : List ℕ) : Type 0 where
+  pub low : 1 ≤ D
+  pub high : D ≤ 3
+  pub fits : (k + n) * D ≤ length xs
+
 -- n pixels of D bytes from number k on have a place in xs, and the row above is there where the ink looks at it
 pub record Paintable (D w k n : ℕ) (xs : List ℕ) (ink : CodeInk) : Type 0 where
   pub low : 1 ≤ D

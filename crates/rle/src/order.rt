@@ -248,7 +248,7 @@ pub(crate) fn dithered_pixels(
     if f.total - s.pixels < n {
         return too_large(f, s, n);
     }
-    paint_dithered(dst, f.depth.bytes, f.width, s.pixels, n, a, b);
+    paint_dithered(dst, f.depth.bytes, s.pixels, n, a, b);
     completed(s, n, false)
 }
 
@@ -286,7 +286,7 @@ pub(crate) fn image_pixels(
     if f.total - s.pixels < n {
         return too_large(f, s, n);
     }
-    paint_image(src, pos, dst, f.depth.bytes, f.width, s.pixels, n);
+    paint_image(src, pos, dst, f.depth.bytes, s.pixels, n);
     completed(s, n, false)
 }
 

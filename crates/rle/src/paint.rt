@@ -1,11 +1,11 @@
 // Painting pixels into a target: pixel k stands in its bytes from k * d on, and the pixel above it w pixels before.
 ghost use mathlib.Core.Path.{_≡_};
-ghost use Prim.Native.Nat.{_+_, _*_, _%_, _≤_};
+ghost use Prim.Native.Nat.{ℕ, _+_, _*_, _%_, _≤_};
 ghost use lib.Dec.{eqb};
 ghost use lib.ListN.{length, drop};
 ghost use Rattle.picture.specs.Pixels.{pick, pixelAt, OfDepth};
 ghost use Rattle.rle.specs.Decode as decode;
-ghost use Rattle.rle.specs.Contracts.{Paintable, PaintedOne, Painted, inkOf, solidInk};
+ghost use Rattle.rle.specs.Contracts.{HasPlace, Paintable, PaintedOne, Painted, inkOf, solidInk};
 use crate::pixel::read_pixel;
 use crate::pixel::write_pixel;
 use crate::pixel::xor;
@@ -118,55 +118,39 @@ pub(crate) fn paint_mask(
     }
 }
 
-// The ink of dithered pixel i: a where i is even, else b.
-pub(crate) fn dither_ink(a: [u8; 3], b: [u8; 3], i: usize) -> Ink
-    ensures { λ r. ⌜ r ≡ solidInk (pick (eqb (i % 2) 0) a b) ⌝ }
+// Pixel i of a dithered run: a where i is even, else b.
+pub(crate) fn dither_pixel(a: [u8; 3], b: [u8; 3], i: usize) -> [u8; 3]
+    ensures { λ r. ⌜ r ≡ pick (eqb (i % 2) 0) a b ⌝ }
 {
     if i % 2 == 0 {
-        return solid(a);
+        return a;
     }
-    solid(b)
+    b
 }
 
-// n pixels from number k on, a and b by turns.
-pub(crate) fn paint_dithered(
-    dst: &mut [u8],
-    d: usize,
-    w: usize,
-    k: usize,
-    n: usize,
-    a: [u8; 3],
-    b: [u8; 3],
-)
-    requires { ⌜ Paintable d w k n (now dst) (solidInk a) ⌝ }
-    requires { ⌜ OfDepth d b ⌝ }
-    ensures { λ _. ⌜ Painted d w (decode.ditherInk a b) k n (now (dst .entry)) (now (dst .exit)) ⌝ }
+// n pixels from number k on, a and b by turns. Like an image's they look at no row above, so any width will do.
+pub(crate) fn paint_dithered(dst: &mut [u8], d: usize, k: usize, n: usize, a: [u8; 3], b: [u8; 3])
+    requires { ⌜ HasPlace d k n (now dst) ⌝ }
+    requires { ⌜ OfDepth d a × OfDepth d b ⌝ }
+    ensures { λ _. ⌜ ((w : ℕ) → Painted d w (decode.ditherInk a b) k n (now (dst .entry)) (now (dst .exit))) ⌝ }
 {
     let mut i = 0;
     while i < n {
-        paint_pixel(dst, d, w, k + i, dither_ink(a, b, i));
+        write_pixel(dst, d, (k + i) * d, dither_pixel(a, b, i));
         i += 1;
     }
 }
 
 // n pixels from number k on, those of the stream from src[pos] on.
-pub(crate) fn paint_image(
-    src: &[u8],
-    pos: usize,
-    dst: &mut [u8],
-    d: usize,
-    w: usize,
-    k: usize,
-    n: usize,
-)
-    requires { ⌜ (1 ≤ d) × (d ≤ 3) × (1 ≤ w) × ((k + n) * d ≤ length (now dst)) ⌝ }
+pub(crate) fn paint_image(src: &[u8], pos: usize, dst: &mut [u8], d: usize, k: usize, n: usize)
+    requires { ⌜ HasPlace d k n (now dst) ⌝ }
     requires { ⌜ pos + n * d ≤ length (now src) ⌝ }
-    ensures { λ _. ⌜ Painted d w (λ j. decode.Ink.solid (pixelAt d (drop pos (now (src .entry))) j)) k n (now (dst .entry)) (now (dst .exit)) ⌝ }
+    ensures { λ _. ⌜ ((w : ℕ) → Painted d w (λ j. decode.Ink.solid (pixelAt d (drop pos (now (src .entry))) j)) k n (now (dst .entry)) (now (dst .exit))) ⌝ }
 {
     let mut i = 0;
     while i < n {
         let p = read_pixel(src, d, pos + i * d);
-        paint_pixel(dst, d, w, k + i, solid(p));
+        write_pixel(dst, d, (k + i) * d, p);
         i += 1;
     }
 }

@@ -1,7 +1,5 @@
 -- `dithered_pixels` meets its contract: the pixels do not fit, or they are painted. Assumes nothing.
-use Prim.Native.Nat.{zero-le}
-use Rattle.rle.specs.Contracts.{solidInk}
-use Rattle.rle.proofs.Orders.{paintable, did-paint, large-order}
+use Rattle.rle.proofs.Orders.{has-place, did-paint, large-order}
 use borrow.Author.Needs.{needs}
 use Rattle.rle.proofs.order.dithered_pixels.Statement.{statement}
 use Rattle.rle.proofs.order.dithered_pixels.Tie as tie
@@ -21,7 +19,7 @@ returns c =
 paint-dithered-requires : tie.Need-paint-dithered-requires
 paint-dithered-requires c κs =
     let s = c .before .before .before .before .before .before in
-    (paintable (s .args .dst .now) (s .args .n) (solidInk (s .args .a)) (s .pre .0) (s .pre .1 .0) (search needs) zero-le (s .pre .1 .1 .2), s .pre .1 .1 .3)
+    (has-place (s .args .dst .now) (s .args .n) (s .pre .0) (s .pre .1 .0) (search needs), (s .pre .1 .1 .2, s .pre .1 .1 .3))
 
 completed-requires : tie.Need-completed-requires
 completed-requires c κs = search needs
@@ -33,7 +31,7 @@ returns-2 : tie.Need-returns-2
 returns-2 c =
     let s = c .before .before .before .before .before .before .before .before .before .before in
     rw (c .completed .ensures)
-    (did-paint _ _ _ _ (s .pre .0) (s .pre .1 .0) _ _ _ (s .args .n) (s .pre .1 .1 .0) (search needs) (c .before .before .before .paint-dithered .ensures))
+    (did-paint _ _ _ _ (s .pre .0) (s .pre .1 .0) _ _ _ (s .args .n) (s .pre .1 .1 .0) (search needs) (c .before .before .before .paint-dithered .ensures _))
 
 pub dithered-pixels-spec : {M : Type 1} → statement M
 dithered-pixels-spec =

@@ -1,7 +1,5 @@
 -- `image_pixels` meets its contract: the pixels do not fit, or they are painted. Assumes nothing.
-use Prim.Native.Nat.{zero-le}
-use Rattle.rle.specs.Contracts.{solidInk}
-use Rattle.rle.proofs.Orders.{paintable, did-paint, large-order}
+use Rattle.rle.proofs.Orders.{has-place, did-paint, large-order}
 use borrow.Author.Needs.{needs}
 use Rattle.rle.proofs.order.image_pixels.Statement.{statement}
 use Rattle.rle.proofs.order.image_pixels.Tie as tie
@@ -21,8 +19,7 @@ returns c =
 paint-image-requires : tie.Need-paint-image-requires
 paint-image-requires c κs =
     let s = c .before .before .before .before .before .before in
-    let p = paintable (s .args .dst .now) (s .args .n) (solidInk (s .args .f .depth .black)) (s .pre .0) (s .pre .1 .0) (search needs) zero-le (s .pre .0 .black) in
-    ((p .low, p .high, p .wide, p .fits), s .pre .1 .1 .2)
+    (has-place (s .args .dst .now) (s .args .n) (s .pre .0) (s .pre .1 .0) (search needs), s .pre .1 .1 .2)
 
 completed-requires : tie.Need-completed-requires
 completed-requires c κs = search needs
@@ -34,7 +31,7 @@ returns-2 : tie.Need-returns-2
 returns-2 c =
     let s = c .before .before .before .before .before .before .before .before .before .before in
     rw (c .completed .ensures)
-    (did-paint _ _ _ _ (s .pre .0) (s .pre .1 .0) _ _ _ (s .args .n) (s .pre .1 .1 .0) (search needs) (c .before .before .before .paint-image .ensures))
+    (did-paint _ _ _ _ (s .pre .0) (s .pre .1 .0) _ _ _ (s .args .n) (s .pre .1 .1 .0) (search needs) (c .before .before .before .paint-image .ensures _))
 
 pub image-pixels-spec : {M : Type 1} → statement M
 image-pixels-spec =

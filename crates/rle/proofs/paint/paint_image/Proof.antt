@@ -1,25 +1,25 @@
 -- `paint_image` meets its contract. The invariant: i pixels are painted. Assumes nothing.
-use Prim.Native.Nat.{_+_, _-_, _≤_}
+use Prim.Native.Nat.{ℕ, _+_, _-_, _≤_}
 use mathlib.Core.Path.{_≡_, refl, _∙_}
 use lib.ListN.{length, drop}
+use native.Mathlib.Omega.{arith}
+use borrow.Author.Needs.{needs}
 use Rattle.picture.specs.Pixels.{pixelAt}
 use Rattle.rle.specs.Decode.{solid}
 use Rattle.rle.specs.Contracts.{Painted}
-use Rattle.rle.proofs.Painting.{painted-none, painted-more, painted-at, at-most-bytes, one-as, with-ink, solid-part, of-depth, image-ink, image-fits}
-use native.Mathlib.Omega.{arith}
-use borrow.Author.Needs.{needs}
+use Rattle.rle.proofs.Painting.{painted-none, painted-more, painted-at, at-most-bytes, of-depth, one-stored, one-place, image-solid, image-fits}
 use Rattle.rle.proofs.paint.paint_image.Statement.{statement}
 use Rattle.rle.proofs.paint.paint_image.Tie as tie
 
 abbrev Inv-loop : tie.InvT-loop
-Inv-loop src pos dst₀ d w k n i₀ dst i =
-    (i ≤ n) × (length dst ≡ length dst₀) × Painted d w (λ j. solid (pixelAt d (drop pos src) j)) k i dst₀ dst
+Inv-loop src pos dst₀ d k n i₀ dst i =
+    (i ≤ n) × (length dst ≡ length dst₀) × ((w : ℕ) → Painted d w (λ j. solid (pixelAt d (drop pos src) j)) k i dst₀ dst)
 
 abbrev μ-loop : tie.MeasureT-loop
-μ-loop src pos dst₀ d w k n i₀ dst i = n - i
+μ-loop src pos dst₀ d k n i₀ dst i = n - i
 
 loop-holds : tie.Need-loop-holds Inv-loop μ-loop
-loop-holds c = (search needs, refl, painted-none)
+loop-holds c = (search needs, refl, λ w. painted-none)
 
 mul-read-pixel : tie.Need-mul-read-pixel Inv-loop μ-loop
 mul-read-pixel c =
@@ -34,22 +34,22 @@ add-read-pixel c =
 read-pixel-requires : tie.Need-read-pixel-requires Inv-loop μ-loop
 read-pixel-requires c κs =
     let s = c .before .before .before .before in
-    (s .pre .0 .0, s .pre .0 .1, omega (arith, image-fits (s .args .d) (s .args .n) (c .before .loop .i) (c .loop-test .taken), s .pre .1))
+    (s .pre .0 .low, s .pre .0 .high, omega (arith, image-fits (s .args .d) (s .args .n) (c .before .loop .i) (c .loop-test .taken), s .pre .1))
 
-add-paint-pixel : tie.Need-add-paint-pixel Inv-loop μ-loop
-add-paint-pixel c =
+add-write-pixel : tie.Need-add-write-pixel Inv-loop μ-loop
+add-write-pixel c =
     let s = c .before .before .before .before .before .before in
-    omega (arith, at-most-bytes (s .args .d) (s .args .k + s .args .n) (s .pre .0 .0), s .pre .0 .3, s .good .1 .1 .0 .0)
+    omega (arith, at-most-bytes (s .args .d) (s .args .k + s .args .n) (s .pre .0 .low), s .pre .0 .fits, s .good .1 .1 .0 .0)
 
-solid-requires : tie.Need-solid-requires Inv-loop μ-loop
-solid-requires c κs = tt
+mul-write-pixel : tie.Need-mul-write-pixel Inv-loop μ-loop
+mul-write-pixel c =
+    let s = c .before .before .before .before .before .before in
+    omega (arith, one-place (c .before .before .before .loop .dst) (c .before .before .before .loop .i) (s .pre .0) (c .before .before .loop-test .taken) (c .before .before .before .loop .inv .1), c .before .before .before .loop .inv .1, s .good .1 .1 .0 .0)
 
-paint-pixel-requires : tie.Need-paint-pixel-requires Inv-loop μ-loop
-paint-pixel-requires c κs =
-    let s = c .before .before .before .before .before .before .before in
-    with-ink (c .solid .ensures)
-    (solid-part (s .args .k) (s .args .n) (s .args .dst .now) _ (s .pre .0 .0) (s .pre .0 .1) (s .pre .0 .2) (s .pre .0 .3) (c .before .before .before .loop-test .taken)
-    (c .before .before .before .before .loop .inv .1) (rw (c .before .before .read-pixel .ensures) (of-depth _ _ (s .pre .0 .0) (s .pre .0 .1))))
+write-pixel-requires : tie.Need-write-pixel-requires Inv-loop μ-loop
+write-pixel-requires c κs =
+    let s = c .before .before .before .before .before .before in
+    (s .pre .0 .low, s .pre .0 .high, omega (arith, one-place (c .before .before .before .loop .dst) (c .before .before .before .loop .i) (s .pre .0) (c .before .before .loop-test .taken) (c .before .before .before .loop .inv .1)))
 
 add-i : tie.Need-add-i Inv-loop μ-loop
 add-i c = omega arith
@@ -59,12 +59,15 @@ loop-less c = omega arith
 
 loop-again : tie.Need-loop-again Inv-loop μ-loop
 loop-again c =
-    let l = c .before .before .before .before .before .before .before .loop in
-    let a = c .before .before .before .before .before .before .before .before .before .before .args in (
+    let s = c .before .before .before .before .before .before .before .before .before in
+    let l = c .before .before .before .before .before .before .loop in
+    let read = c .before .before .before .before .read-pixel .ensures in (
       omega arith,
-      c .before .before .paint-pixel .kept .0 ∙ l .inv .1,
-      painted-more _ _ _ _ _ _ _ _ (l .inv .2)
-          (one-as (image-ink (a .d) (a .src .now) (a .pos) (l .i) _ (c .before .before .before .solid .ensures) (c .before .before .before .before .before .read-pixel .ensures)) (c .before .before .paint-pixel .ensures)),
+      c .before .before .write-pixel .kept .0 ∙ l .inv .1,
+      λ w. painted-more _ _ _ _ _ _ _ _ (l .inv .2 w)
+          (one-stored (s .pre .0 .low) (s .pre .0 .high) (one-place (l .dst) (l .i) (s .pre .0) (c .before .before .before .before .before .loop-test .taken) (l .inv .1))
+          (rw read (of-depth _ _ (s .pre .0 .low) (s .pre .0 .high)))
+          (image-solid (s .args .d) (s .args .src .now) (s .args .pos) (l .i) read) (c .before .before .write-pixel .ensures) w),
     )
 
 same-length : tie.Need-same-length Inv-loop μ-loop
@@ -73,7 +76,7 @@ same-length c = c .before .loop .inv .1
 returns : tie.Need-returns Inv-loop μ-loop
 returns c =
     let e : c .before .loop .i ≡ c .before .before .before .before .args .n = omega arith in
-    painted-at e (c .before .loop .inv .2)
+    λ w. painted-at e (c .before .loop .inv .2 w)
 
 pub paint-image-spec : {M : Type 1} → statement M
 paint-image-spec =
@@ -85,9 +88,9 @@ paint-image-spec =
     mul-read-pixel
     add-read-pixel
     read-pixel-requires
-    add-paint-pixel
-    solid-requires
-    paint-pixel-requires
+    add-write-pixel
+    mul-write-pixel
+    write-pixel-requires
     add-i
     loop-less
     loop-again
