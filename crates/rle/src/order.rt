@@ -434,9 +434,6 @@ pub(crate) fn by_kind(src: &[u8], dst: &mut [u8], f: Frame, s: State, kind: u8, 
     requires { ⌜ (1 ≤ n) × (n ≤ 65536) ⌝ }
     ensures { λ r. ⌜ Did (frameOf f) (now (src .entry)) (now (dst .entry)) (now (dst .exit)) s r (decode.orderOf (frameOf f) (kindOf kind) n) ⌝ }
 {
-    let d = f.depth;
-    let white = d.white;
-    let black = d.black;
     match kind {
         0 => bg_run(src, dst, f, s, n),
         1 => fg_run(src, dst, f, s, n),
@@ -448,8 +445,16 @@ pub(crate) fn by_kind(src: &[u8], dst: &mut [u8], f: Frame, s: State, kind: u8, 
         7 => dithered_run(src, dst, f, s, n),
         8 => special_fgbg(src, dst, f, s, 0x03, n),
         9 => special_fgbg(src, dst, f, s, 0x05, n),
-        10 => uniform_run(src, dst, f, s, solid(white), n),
-        11 => uniform_run(src, dst, f, s, solid(black), n),
+        10 => {
+            let d = f.depth;
+            let p = d.white;
+            uniform_run(src, dst, f, s, solid(p), n)
+        }
+        11 => {
+            let d = f.depth;
+            let p = d.black;
+            uniform_run(src, dst, f, s, solid(p), n)
+        }
         _ => refused(s, RleError::BadOrderCode),
     }
 }
