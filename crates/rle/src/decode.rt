@@ -2,7 +2,7 @@
 ghost use mathlib.Core.Path.{_≡_};
 ghost use lib.ListN.{length};
 ghost use Rattle.rle.specs.Contracts.{frameOf, startOf, Framed, Ran};
-use crate::code::header_kinds;
+use crate::header::header_kinds;
 use crate::order::Answer;
 use crate::order::Frame;
 use crate::order::State;

@@ -5,6 +5,7 @@ ghost use Rattle.rle.specs.Report.{Decompresses};
 
 pub(crate) mod code;
 pub(crate) mod decode;
+pub(crate) mod header;
 pub(crate) mod order;
 pub(crate) mod paint;
 pub(crate) mod pixel;

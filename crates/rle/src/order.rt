@@ -1,8 +1,8 @@
 // The orders: one function for each kind, and one that chooses. Each takes the state before the order and answers the state
 // after it; the pixels go straight to the target.
 ghost use mathlib.Core.Path.{_≡_};
-ghost use mathlib.Core.Bool.{true, false};
-ghost use Prim.Native.Nat.{_+_, _-_, _*_, _≤_, _<_, min};
+ghost use mathlib.Core.Bool.{false};
+ghost use Prim.Native.Nat.{_+_, _*_, _≤_, _<_, min};
 ghost use lib.ListN.{length, drop};
 ghost use Rattle.picture.specs.Pixels.{pixelAt, OfDepth};
 ghost use Rattle.rle.specs.Orders.{kindOf};
@@ -11,7 +11,7 @@ ghost use Rattle.rle.specs.Decode as decode;
 ghost use Rattle.rle.specs.Contracts.{frameOf, fgOf, bgOf, inkOf, reach, Framed, Sound, Did, completedOf, refusedOf, tooLargeOf, atPos, withFg, advancedBy, firstRowEnded};
 use crate::code::RunLength;
 use crate::code::extract_run_length;
-use crate::code::kind;
+use crate::header::kind;
 use crate::paint::Ink;
 use crate::paint::Mode;
 use crate::paint::paint_bg_run;

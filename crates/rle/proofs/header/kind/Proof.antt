@@ -7,8 +7,8 @@ use borrow.Author.Needs.{needs}
 use Rattle.rle.specs.Orders.{kindNumber}
 use Rattle.rle.specs.Codes.{kinds}
 use Rattle.rle.proofs.Table.{getD-tabulate}
-use Rattle.rle.proofs.code.kind.Statement.{statement}
-use Rattle.rle.proofs.code.kind.Tie as tie
+use Rattle.rle.proofs.header.kind.Statement.{statement}
+use Rattle.rle.proofs.header.kind.Tie as tie
 
 element-copy-out-result : tie.Need-element-copy-out-result
 element-copy-out-result c = search needs

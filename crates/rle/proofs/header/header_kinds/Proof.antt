@@ -2,8 +2,8 @@
 use mathlib.Core.Path.{refl}
 use Rattle.rle.specs.Orders.{kindNumber, numberIn, hasHeader, isMegaMega, rows, row}
 use Rattle.rle.specs.Codes.{tabulate, kinds}
-use Rattle.rle.proofs.code.header_kinds.Statement.{statement}
-use Rattle.rle.proofs.code.header_kinds.Tie as tie
+use Rattle.rle.proofs.header.header_kinds.Statement.{statement}
+use Rattle.rle.proofs.header.header_kinds.Tie as tie
 
 returns : tie.Need-returns
 unfolding kinds tabulate kindNumber numberIn hasHeader isMegaMega rows row
