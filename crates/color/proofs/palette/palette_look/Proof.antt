@@ -1,12 +1,11 @@
 -- `palette_look` meets its contract. The invariant: no entry that was passed is the triple. Assumes nothing.
 use borrow.Author.Needs.{needs}
 use Prim.Native.Nat.{ℕ, _≤_, _<_, _-_}
-use mathlib.Core.Path.{_≡_, _∙_, sym}
+use mathlib.Core.Path.{_≡_, _∙_, sym, refl}
 use native.Mathlib.Omega.{arith}
 use borrow.Author.Count.{below-more}
 use Rattle.color.specs.Colors.{entry}
 use Rattle.color.proofs.Triples.{same-equal, equal-same}
-use mathlib.Core.Path.{refl}
 use Rattle.color.proofs.palette.palette_look.Statement.{statement}
 use Rattle.color.proofs.palette.palette_look.Tie as tie
 

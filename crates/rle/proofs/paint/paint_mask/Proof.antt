@@ -1,12 +1,11 @@
 -- `paint_mask` meets its contract. The invariant: i pixels are painted, and m is the mask without its i lowest bits. Assumes nothing.
 use borrow.Author.Needs.{needs}
-use Prim.Native.Nat.{_+_, _-_, _≤_}
+use Prim.Native.Nat.{_+_, _-_, _≤_, _/_, _%_, _^_}
 use mathlib.Core.Path.{_≡_, refl, _∙_}
 use lib.ListN.{length}
 use native.Mathlib.Omega.{arith}
 use Rattle.rle.specs.Contracts.{Painted, inkOf}
 use Rattle.rle.specs.Decode.{maskInk}
-use Prim.Native.Nat.{_/_, _%_, _^_}
 use lib.Dec.{eqb}
 use Rattle.rle.proofs.Painting.{painted-none, painted-more, painted-at, at-most-bytes, part, one-as, with-ink, either, mask-none, mask-more, mask-ink}
 use Rattle.rle.proofs.paint.paint_mask.Statement.{statement}
