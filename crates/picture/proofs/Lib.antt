@@ -1,3 +1,4 @@
+pub mod Tests
 pub mod Depths
 pub mod Sizes
 pub mod Pixels

@@ -14,6 +14,7 @@ use Rattle.picture.specs.Pixels.{Pixel, pick, firstPixel}
 use Rattle.rle.specs.Orders.{Kind, BgRun, FgRun, FgBgImage, ColorRun, ColorImage, SetFgRun, SetFgBgImage, DitheredRun, SpecialFgBg1, SpecialFgBg2, White, Black, NoOrder, kindOf, kindNumber, RunLength, runLength, noLength, shortLength, megaMegaLength, withBytes, lengthOf, lengthIn, kindRow, rows, row, noRow, headed, headOf}
 use Rattle.picture.specs.Sizes.{Frame}
 use Rattle.rle.specs.Decode.{State, Step, done, refused, Ink, maskInk, ditherInk, fg, bg, paint, paintOrder, tooLarge, completed, withPainted, withLeft, withForeground, room, needBytes, tooShort, bgRun, fgRun, setForeground, setFgRun, colorRun, ditheredRun, colorImage, specialFgBg, oneMask, andThen, masks, fgBgImage, setFgBgImage, orderOf, orderFrom, endFirstRow, step, Run, ended, paused, stopped, atEnd, thenRun, run, decode, start}
+use Rattle.picture.proofs.Tests.{by-test}
 use Rattle.rle.proofs.Lengths.{by-number}
 use Rattle.rle.proofs.Painting.{length-paint}
 
@@ -70,14 +71,10 @@ moves-drop k s p =
       kept = bytes-drop k (s .left);
     }
 
-either : {A : Type 0} (P : A → Type 0) (t : Bool) (x y : A) → (t ≡ true → P x) → (t ≡ false → P y) → P (pick t x y)
-either P true x y p q = p refl
-either P false x y p q = q refl
-
 order-moves : (f : Frame) (i : Bool) (ink : ℕ → Ink) (n : ℕ) (s : State) → 1 ≤ n → Safe n s (paintOrder f i ink n s)
 unfolding paintOrder tooLarge completed withPainted
 order-moves f i ink n s h =
-    either (λ (x : Step). Safe n s x) (leb n (room f s)) _ _
+    by-test (λ (x : Step). Safe n s x) (leb n (room f s))
     (λ e.
     let l = length-paint (f .width) ink n (s .painted) in
     record { moves = record { most = omega (arith, l); grow = omega (arith, l); orders = omega (arith, l); kept = λ b. b } })
@@ -86,7 +83,7 @@ order-moves f i ink n s h =
 bytes-moves : (m k : ℕ) (s : State) (go : Step) → (k ≤ length (s .left) → Safe m s go) → Safe m s (needBytes k s go)
 unfolding needBytes tooShort
 bytes-moves m k s go h =
-    either (λ (x : Step). Safe m s x) (leb k (length (s .left))) go (tooShort k s)
+    by-test (λ (x : Step). Safe m s x) (leb k (length (s .left)))
     (λ e. h (leb-true k (length (s .left)) e)) (λ e. record { moves = stay m s })
 
 -- ---- fg/bg images
@@ -107,14 +104,14 @@ masked-stay n s = record { most = omega arith; grow = le-refl _; orders = omega 
 masks-moves : (f : Frame) (l : List ℕ) (n : ℕ) (s : State) → s .left ≡ l → Masked n s (after (masks f n s l))
 unfolding masks tooShort oneMask andThen tooLarge withPainted withLeft
 masks-moves f [] n s e =
-    either (λ (x : Step). Masked n s (after x)) (eqb n 0) _ _ (λ t. masked-done n s (eqb-true n 0 t)) (λ t. masked-stay n s)
+    by-test (λ (x : Step). Masked n s (after x)) (eqb n 0) (λ t. masked-done n s (eqb-true n 0 t)) (λ t. masked-stay n s)
 masks-moves f (m ∷ rest) n s e =
-    either (λ (x : Step). Masked n s (after x)) (eqb n 0) _ _ (λ t. masked-done n s (eqb-true n 0 t))
+    by-test (λ (x : Step). Masked n s (after x)) (eqb n 0) (λ t. masked-done n s (eqb-true n 0 t))
     (λ t.
     let some : n ≡ 0 → ⊥ = eqb-false n 0 t in
     let longer : length (s .left) ≡ suc (length rest) = ap length e in
     let tail : Bytes (s .left) → Bytes rest = λ h i. subst (λ (l : List ℕ). Bytes l) e h (suc i) in
-    either (λ (x : Step). Masked n s (after (andThen (λ u. masks f (n - min 8 n) u rest) x))) (leb (min 8 n) (room f (withLeft rest s))) _ _
+    by-test (λ (x : Step). Masked n s (after (andThen (λ u. masks f (n - min 8 n) u rest) x))) (leb (min 8 n) (room f (withLeft rest s)))
     (λ u.
     let ps = paint (f .width) (maskInk (fg s) (bg f s) m) (min 8 n) (s .painted) in
     let p = length-paint (f .width) (maskInk (fg s) (bg f s) m) (min 8 n) (s .painted) in
@@ -194,7 +191,7 @@ module _ (rest : List ℕ) (ok : Bytes rest) where
   len-bytes : (k : ℕ) (l : RunLength) → (k ≤ length rest → LenOk rest l) → LenOk rest (withBytes k rest l)
   unfolding withBytes
   len-bytes k l h =
-      either (λ (x : RunLength). LenOk rest x) (leb k (length rest)) l _ (λ e. h (leb-true k (length rest) e)) (λ e. (le-refl _, ok))
+      by-test (λ (x : RunLength). LenOk rest x) (leb k (length rest)) (λ e. h (leb-true k (length rest) e)) (λ e. (le-refl _, ok))
 
   here : (n : ℕ) → 1 ≤ n → n ≤ 248 → LenOk rest (runLength n rest)
   here n a b = (a, omega arith, le-refl _, omega arith, ok)
@@ -202,7 +199,7 @@ module _ (rest : List ℕ) (ok : Bytes rest) where
   short-ok : (low n base : ℕ) → low ≤ n → n ≤ 248 → 1 ≤ base → base ≤ 32 → LenOk rest (shortLength low n base rest)
   unfolding shortLength
   short-ok low n base a b c d =
-      either (λ (x : RunLength). LenOk rest x) (eqb low 0) _ _
+      by-test (λ (x : RunLength). LenOk rest x) (eqb low 0)
       (λ e. len-bytes 1 _ (λ h.
       let l = length-drop 1 rest in
       (omega arith, omega (arith, l, ok 0), omega (arith, l), omega (arith, l), bytes-drop 1 rest ok)))
@@ -215,7 +212,7 @@ module _ (rest : List ℕ) (ok : Bytes rest) where
   long-ok =
       len-bytes 2 _ (λ h.
       let l = length-drop 2 rest in
-      either (λ (x : RunLength). LenOk rest x) (eqb (getD rest 0 0 + getD rest 1 0 * 256) 0) _ _
+      by-test (λ (x : RunLength). LenOk rest x) (eqb (getD rest 0 0 + getD rest 1 0 * 256) 0)
       (λ e. (omega (arith, l), bytes-drop 2 rest ok))
       (λ e.
       let z : getD rest 0 0 + getD rest 1 0 * 256 ≡ 0 → ⊥ = eqb-false _ 0 e in
@@ -225,7 +222,7 @@ module _ (rest : List ℕ) (ok : Bytes rest) where
   row-ok : (h size unit next : ℕ) → (h % size ≤ h % size * unit) → (h % size * unit ≤ 248) → 1 ≤ next → next ≤ 32
       → LenOk rest (pick (ltb h 0xF0) (shortLength (h % size) (h % size * unit) next rest) (megaMegaLength rest))
   row-ok h size unit next a b c d =
-      either (λ (x : RunLength). LenOk rest x) (ltb h 0xF0) _ _ (λ e. short-ok (h % size) (h % size * unit) next a b c d) (λ e. long-ok)
+      by-test (λ (x : RunLength). LenOk rest x) (ltb h 0xF0) (λ e. short-ok (h % size) (h % size * unit) next a b c d) (λ e. long-ok)
 
   pub length-ok : (h c : ℕ) → LenOk rest (lengthOf h c rest)
   unfolding lengthOf lengthIn kindRow rows row noRow

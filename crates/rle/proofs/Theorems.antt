@@ -22,12 +22,17 @@ unfolding withSpace
 space-is given (away r) h = refl
 space-is given (fit f k) h = rw (le-ltb given (f .total * f .bytes) h)
 
+-- with space the call's result is that of the definition, which sees no target
+pub with-space : (src : List ℕ) (bpp w h : ℕ) (before after : List ℕ) (r : Report) → Decompresses src bpp w h before after r → HasSpace before bpp w h
+    → Agrees src before after (w * h) r (result src bpp w h)
+unfolding resultIn result
+with-space src bpp w h before after r d space =
+    subst (λ (x : Result). Agrees src before after (w * h) r x) (ap (λ (c : Checked). ofChecked src c) (space-is (length before) (checked bpp w h) space)) d
+
 pub defined : (src : List ℕ) (bpp w h : ℕ) (before after : List ℕ) (r : Report)
     → Decompresses src bpp w h before after r → HasSpace before bpp w h → Defined src bpp w h before after r
-unfolding resultIn result
 defined src bpp w h before after r d space =
-    let e : Agrees src before after (w * h) r (result src bpp w h) =
-    subst (λ (x : Result). Agrees src before after (w * h) r x) (ap (λ (c : Checked). ofChecked src c) (space-is (length before) (checked bpp w h) space)) d in
+    let e = with-space src bpp w h before after r d space in
     record {
       refusal = e .refusal;
       format = e .format;

@@ -6,7 +6,8 @@ use lib.Dec.{ltb, leb}
 use borrow.Author.Tests.{lt-ltb, le-ltb, le-leb, lt-leb, ltb-false}
 use Rattle.tile_text.specs.Text.{hexDigit}
 use Rattle.tile_text.specs.Parse.{decimalValue, hexValue}
-use Rattle.tile_text.proofs.Tests.{by-test, by-less}
+use Rattle.picture.proofs.Tests.{by-test}
+use Rattle.tile_text.proofs.Tests.{by-less}
 
 -- ---- decimal digits
 

@@ -1,6 +1,6 @@
 -- From the decoder's report to the answer: each way through `answer` gives the definition's result, and the lines with its values are
 -- the definition's lines. Assumes nothing.
-use mathlib.Core.Path.{_≡_, refl, _∙_, ap, subst}
+use mathlib.Core.Path.{_≡_, refl, _∙_, ap}
 use mathlib.Core.List.{List}
 use Prim.Native.Nat.{ℕ, _+_, _*_, _-_, _<_, _≤_}
 use native.Mathlib.Omega.{arith}
@@ -9,12 +9,13 @@ use lib.ListN.{length, take, length-append, length-drop}
 use lib.Seq.{take-append-seam}
 use borrow.Author.Tests.{eq-eqb, ne-eqb, lt-ltb, le-ltb}
 use Rattle.picture.specs.Pixels.{pick, bytesOf}
-use Rattle.picture.specs.Sizes.{Refusal, refusal, Checked, away, fit, Frame, checked, withSpace, fitOf, depthOf, bytes, refused, sizeOf}
-use Rattle.rle.specs.Decode.{Result, Run, ended, paused, stopped, ofChecked, ofRun, resultOf, decode, result, resultIn}
+use Rattle.picture.specs.Sizes.{Refusal, refusal, Checked, away, fit, Frame, checked, fitOf, depthOf, bytes, refused, sizeOf}
+use Rattle.rle.specs.Decode.{Result, Run, ended, paused, stopped, ofChecked, ofRun, resultOf, decode, result}
 use Rattle.picture.specs.Outcomes.{refusalIn, formatIn}
 use Rattle.rle.specs.Report.{Agrees, Decompresses}
 use Rattle.rle.specs.declared.report.Report.{Report}
 use Rattle.picture.proofs.Sizes.{sized}
+use Rattle.rle.proofs.Theorems.{with-space}
 use Rattle.tile_text.specs.Answer.{refusedWith, badTileText, tileTooLarge, limited, linesOf}
 use Rattle.tile_text.specs.Reply.{decoded, replyOf, Replies}
 use Rattle.tile_text.specs.Contracts.{Writes, fieldsOf, reportLines, linesWith, Within, Answered}
@@ -67,14 +68,6 @@ module _ (p : Parser) (stream xs : List ℕ) (v : Fields) where
 
 -- ---- decoding
 
--- a picture that fits meets no refusal 4
-fit-space : (c : Checked) (n given : ℕ) → bytes n ≡ sizeOf c → n ≤ given → withSpace given c ≡ c
-unfolding sizeOf withSpace
-fit-space (away r) n given e h = apart cc
-fit-space (fit f k) n given e h =
-    let same : n ≡ f .total * f .bytes = cc in
-    rw (le-ltb given (f .total * f .bytes) (subst (λ (m : ℕ). m ≤ given) same h))
-
 run-bytes : (f : Frame) (k : ℕ) (r : Run) → ofRun f k r .bytes ≡ f .bytes
 unfolding ofRun resultOf
 run-bytes f k (ended s) = refl
@@ -88,10 +81,10 @@ fit-bytes b w h n stream e = rw (sized b w h n e .checks) (run-bytes _ _ (decode
 module _ (p : Parser) (stream before after : List ℕ) (r : Report) (within : Within p stream before) where
   decodes : Decompresses (take (p .count) stream) (p .bpp) (p .width) (p .height) before after r
       → Agrees (take (p .count) stream) before after (p .width * p .height) r (decoded p stream)
-  unfolding resultIn decoded result
+  unfolding decoded fitOf
   decodes d =
-      let g : within .size ≤ length before = omega (arith, within .small, within .space) in
-      rw (fit-space (checked (p .bpp) (p .width) (p .height)) (within .size) (length before) (within .picture) g) at d
+      let k = sized (p .bpp) (p .width) (p .height) (within .size) (within .picture) in
+      with-space _ _ _ _ before after r d (rw (k .checks) (omega (arith, k .size, within .small, within .space)))
 
   module _ (D : ℕ) (depth : D ≡ depthOf (p .bpp) .bytes) (same : length after ≡ length before)
       (d : Decompresses (take (p .count) stream) (p .bpp) (p .width) (p .height) before after r) where

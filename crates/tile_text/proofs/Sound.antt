@@ -13,7 +13,8 @@ use Rattle.picture.specs.Pixels.{pick}
 use Rattle.tile_text.specs.Text.{decimal, hexDigit, hexPairs, widthKey, heightKey, bppKey, streamKey, line, textOf, Bytes}
 use Rattle.tile_text.specs.Parse.{keys, keyByte, decimalValue, hexValue, start, onLine, bad, keyRead, withValue, nextLine, endNumber, countMore, byteRead, goesOn, numberDigit, step, endsByte, stored, fed, fedInto}
 use Rattle.tile_text.specs.declared.parser.Parser.{Parser}
-use Rattle.tile_text.proofs.Tests.{by-test, by-less}
+use Rattle.picture.proofs.Tests.{by-test}
+use Rattle.tile_text.proofs.Tests.{by-less}
 use Rattle.tile_text.proofs.Keys.{keyOf, key-over, key-more}
 use Rattle.tile_text.proofs.Digits.{decimal-digit, hex-digit}
 use Rattle.tile_text.proofs.Printed.{decimal-small, decimal-more, pairs-append}

@@ -1,16 +1,11 @@
--- Tests: what holds by each way of a test, and a fact of every number below a bound by one test that antt computes. Assumes nothing.
-use mathlib.Core.Path.{_≡_, refl, subst}
+-- Tests: by the order of two numbers, and a fact of every number below a bound by one test that antt computes. Assumes nothing.
+use mathlib.Core.Path.{_≡_, subst}
 use mathlib.Core.Bool.{Bool, true, false}
 use Prim.Native.Nat.{ℕ, zero, suc, _<_, _≤_}
 use native.Mathlib.Omega.{arith}
 use native.Mathlib.Decide.{decLt}
 use lib.Dec.{T}
 use Rattle.picture.specs.Pixels.{pick}
-
--- what holds of each way of a test holds of the choice
-pub by-test : {A : Type 0} (Q : A → Type 0) (t : Bool) {a b : A} → (t ≡ true → Q a) → (t ≡ false → Q b) → Q (pick t a b)
-by-test Q true f g = f refl
-by-test Q false f g = g refl
 
 -- what is so by `cc` where two constructors that differ are equal
 pub apart : {A : Type 0} → _≡_ {A = ℕ} 0 1 → A
