@@ -7,7 +7,7 @@ use native.Mathlib.Omega.{arith}
 use lib.Dec.{ltb, leb, eqb}
 use borrow.Author.Tests.{leb-false, eqb-false, ltb-false, le-leb, lt-leb, lt-ltb, le-ltb, eq-eqb, ne-eqb}
 use Rattle.picture.specs.declared.PictureSize.{PictureSize}
-use Rattle.picture.specs.Sizes.{Refusal, refusal, depthIndex, depthOf, Checked, away, fit, fitOf, checked, Size, bytes, refused, sizeOf}
+use Rattle.picture.specs.Sizes.{Refusal, refusal, depthIndex, depthOf, Checked, rejected, accepted, accept, checked, Size, bytes, refused, sizeOf}
 use Rattle.picture.specs.Outcomes.{sizeIn}
 use Rattle.picture.proofs.Depths.{depth-good}
 
@@ -38,7 +38,7 @@ module _ (bpp w h i : ℕ) (is : i ≡ depthIndex bpp) where
           size-high e = rw (← is, lt-leb 4 i a, ne-eqb w 0 b, ne-eqb h 0 c, le-ltb 8192 w d, lt-ltb 8192 h e)
 
           pub size-fits : h ≤ 8192 → (D : ℕ) → D ≡ depthOf bpp .bytes → bytes (w * h * D) ≡ sizeOf (checked bpp w h)
-          unfolding checked sizeOf fitOf
+          unfolding checked sizeOf accept
           size-fits e D p = rw (← is, lt-leb 4 i a, ne-eqb w 0 b, ne-eqb h 0 c, le-ltb 8192 w d, le-ltb 8192 h e, p)
 
 clash : (n : ℕ) (r : Refusal) → bytes n ≡ refused r → ⊥
@@ -55,12 +55,12 @@ pub record Sized (bpp w h n : ℕ) : Type 0 where
   pub width : w ≤ 8192
   pub height : h ≤ 8192
   pub size : n ≡ w * h * depthOf bpp .bytes
-  pub checks : checked bpp w h ≡ fitOf (depthOf bpp) w h
+  pub checks : checked bpp w h ≡ accept (depthOf bpp) w h
 
 module _ (bpp w h n : ℕ) (is : bytes n ≡ sizeOf (checked bpp w h)) where
   -- the tests of `checked`, one after the other
   pub sized : Sized bpp w h n
-  unfolding checked sizeOf fitOf
+  unfolding checked sizeOf accept
   sized = depth (leb 4 (depthIndex bpp)) refl
     where
       no : (r : Refusal) → sizeOf (checked bpp w h) ≡ refused r → Sized bpp w h n
@@ -69,7 +69,7 @@ module _ (bpp w h n : ℕ) (is : bytes n ≡ sizeOf (checked bpp w h)) where
       fits : leb 4 (depthIndex bpp) ≡ false → eqb w 0 ≡ false → eqb h 0 ≡ false → ltb 8192 w ≡ false → (b : Bool) → ltb 8192 h ≡ b → Sized bpp w h n
       fits p q r s true e = no (refusal 3 w h) (rw (p, q, r, s, e))
       fits p q r s false e =
-          let c : checked bpp w h ≡ fitOf (depthOf bpp) w h = rw (p, q, r, s, e) in
+          let c : checked bpp w h ≡ accept (depthOf bpp) w h = rw (p, q, r, s, e) in
           let k : depthIndex bpp < 4 = leb-false 4 (depthIndex bpp) p in
           let z : w ≡ 0 → ⊥ = eqb-false w 0 q in
           let m : bytes n ≡ bytes (w * h * depthOf bpp .bytes) = is ∙ ap sizeOf c in
@@ -104,7 +104,7 @@ few a b = mul-le-mul a b
 pub few-bytes : {w h : ℕ} (bpp : ℕ) → depthIndex bpp < 4 → w ≤ 8192 → h ≤ 8192 → w * h * depthOf bpp .bytes ≤ 201326592
 few-bytes bpp k a b = mul-le-mul (few a b) (depth-good bpp k .high)
 
-pub size-away : (c : Checked) (r : Refusal) → refused r ≡ sizeOf c → c ≡ away r
+pub size-rejected : (c : Checked) (r : Refusal) → refused r ≡ sizeOf c → c ≡ rejected r
 unfolding sizeOf
-size-away (away x) r e = cc
-size-away (fit f k) r e = absurd (clash (f .total * f .bytes) r (sym e))
+size-rejected (rejected x) r e = cc
+size-rejected (accepted f k) r e = absurd (clash (f .total * f .bytes) r (sym e))

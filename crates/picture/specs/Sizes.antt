@@ -53,26 +53,26 @@ pub record Frame : Type 0 where
 
 -- a refusal before the stream, or the frame with the format's number
 pub data Checked : Type 0 where
-  away : Refusal → Checked
-  fit : Frame → ℕ → Checked
+  rejected : Refusal → Checked
+  accepted : Frame → ℕ → Checked
 
-unfoldable pub fitOf : Depth → ℕ → ℕ → Checked
-fitOf d w h = fit (record { bytes = d .bytes; white = d .white; black = d .black; width = w; total = w * h }) (d .format)
+unfoldable pub accept : Depth → ℕ → ℕ → Checked
+accept d w h = accepted (record { bytes = d .bytes; white = d .white; black = d .black; width = w; total = w * h }) (d .format)
 
 -- refusals 1 to 3
 unfoldable pub checked : ℕ → ℕ → ℕ → Checked
 checked bpp w h =
-    pick (leb 4 (depthIndex bpp)) (away (refusal 1 bpp 0))
-    (pick (eqb w 0) (away (refusal 2 0 0))
-    (pick (eqb h 0) (away (refusal 2 0 0))
-    (pick (ltb 8192 w) (away (refusal 3 w h))
-    (pick (ltb 8192 h) (away (refusal 3 w h)) (fitOf (depthOf bpp) w h)))))
+    pick (leb 4 (depthIndex bpp)) (rejected (refusal 1 bpp 0))
+    (pick (eqb w 0) (rejected (refusal 2 0 0))
+    (pick (eqb h 0) (rejected (refusal 2 0 0))
+    (pick (ltb 8192 w) (rejected (refusal 3 w h))
+    (pick (ltb 8192 h) (rejected (refusal 3 w h)) (accept (depthOf bpp) w h)))))
 
 -- refusal 4, for a target of `given` bytes
 unfoldable pub withSpace : ℕ → Checked → Checked
-withSpace given (away r) = away r
-withSpace given (fit f k) =
-    pick (ltb given (f .total * f .bytes)) (away (refusal 4 (f .total * f .bytes) given)) (fit f k)
+withSpace given (rejected r) = rejected r
+withSpace given (accepted f k) =
+    pick (ltb given (f .total * f .bytes)) (rejected (refusal 4 (f .total * f .bytes) given)) (accepted f k)
 
 -- a picture's bytes, or refusal 1, 2 or 3
 pub data Size : Type 0 where
@@ -80,8 +80,8 @@ pub data Size : Type 0 where
   refused : Refusal → Size
 
 unfoldable pub sizeOf : Checked → Size
-sizeOf (away r) = refused r
-sizeOf (fit f k) = bytes (f .total * f .bytes)
+sizeOf (rejected r) = refused r
+sizeOf (accepted f k) = bytes (f .total * f .bytes)
 
 -- a slice of `given` bytes has space for the whole picture
 unfoldable pub hasSpace : ℕ → Size → Bool

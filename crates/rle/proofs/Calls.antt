@@ -15,22 +15,22 @@ use Rattle.rle.specs.declared.report.Report.{Report}
 use Rattle.picture.specs.declared.outcome.RleError.{RleError}
 use Rattle.picture.specs.declared.outcome.RleError.the-variants.{BufferTooShort}
 use Rattle.picture.specs.Pixels.{bytesOf}
-use Rattle.picture.specs.Sizes.{Frame, Depth, depthIndex, depthOf, Checked, away, fit, fitOf, checked, withSpace, bytes, refused, sizeOf}
+use Rattle.picture.specs.Sizes.{Frame, Depth, depthIndex, depthOf, Checked, rejected, accepted, accept, checked, withSpace, bytes, refused, sizeOf}
 use Rattle.rle.specs.Decode.{State, Run, decode, resultOf, ofRun, ofChecked, resultIn}
 use Rattle.picture.specs.Outcomes.{refusalOf, depthIn}
 use Rattle.rle.specs.Report.{Agrees, Decompresses}
 use Rattle.rle.specs.Contracts.{frameOf, stateOf, Framed, Ran, runOf, refusalAfter, formatAfter, Reports, notDecoded}
 use Rattle.rle.proofs.Pixels.{length-pixelsOf, bytes-pixels}
 use Rattle.picture.proofs.Depths.{Good, depth-good}
-use Rattle.picture.proofs.Sizes.{few, sized, size-away}
+use Rattle.picture.proofs.Sizes.{few, sized, size-rejected}
 use Rattle.rle.proofs.Bounds.{Bytes, last, decode-bounds}
 
 -- ---- refusals before the stream
 
-away-is : (src before : List ℕ) (total : ℕ) (c : Checked) (e : RleError) → c ≡ away (refusalOf e)
+rejected-is : (src before : List ℕ) (total : ℕ) (c : Checked) (e : RleError) → c ≡ rejected (refusalOf e)
     → Agrees src before before total (notDecoded e) (ofChecked src c)
 unfolding ofChecked bytesOf
-away-is src before total c e p =
+rejected-is src before total c e p =
     rw p
     (record {
       refusal = refl;
@@ -45,20 +45,20 @@ away-is src before total c e p =
     })
 
 module _ (src before : List ℕ) (bpp w h : ℕ) {r : Report} (e : RleError) (is : r ≡ notDecoded e) where
-  pub reports-away : refused (refusalOf e) ≡ sizeOf (checked bpp w h) → Decompresses src bpp w h before before r
+  pub reports-rejected : refused (refusalOf e) ≡ sizeOf (checked bpp w h) → Decompresses src bpp w h before before r
   unfolding resultIn withSpace
-  reports-away s =
+  reports-rejected s =
       rw is
-      (away-is src before (w * h) (withSpace (length before) (checked bpp w h)) e
-      (ap (λ (c : Checked). withSpace (length before) c) (size-away (checked bpp w h) (refusalOf e) s)))
+      (rejected-is src before (w * h) (withSpace (length before) (checked bpp w h)) e
+      (ap (λ (c : Checked). withSpace (length before) c) (size-rejected (checked bpp w h) (refusalOf e) s)))
 
   pub reports-short : (n : ℕ) → bytes n ≡ sizeOf (checked bpp w h) → length before < n → e ≡ BufferTooShort n (length before)
       → Decompresses src bpp w h before before r
-  unfolding resultIn withSpace fitOf
+  unfolding resultIn withSpace accept
   reports-short n s l q =
       let k = sized bpp w h n s in
       rw is
-      (away-is src before (w * h) (withSpace (length before) (checked bpp w h)) e
+      (rejected-is src before (w * h) (withSpace (length before) (checked bpp w h)) e
       (rw (k .checks, q, k .size) (rw (lt-ltb (length before) (w * h * depthOf bpp .bytes) (rw (k .size) at l)))))
 
 -- ---- the stream
@@ -129,11 +129,11 @@ module _ (src before : List ℕ) (bpp w h n : ℕ) (is : bytes n ≡ sizeOf (che
   pub format-good : depthIndex (d .format) < 4
   format-good = good .listed
 
-  fits-is : withSpace (length before) (checked bpp w h) ≡ fit (frameOf (record { depth = d; width = w; total = w * h })) (d .format)
-  unfolding withSpace fitOf
+  fits-is : withSpace (length before) (checked bpp w h) ≡ accepted (frameOf (record { depth = d; width = w; total = w * h })) (d .format)
+  unfolding withSpace accept
   fits-is =
       let k = sized bpp w h n is in
-      rw (k .checks, le-ltb (length before) (w * h * depthOf bpp .bytes) (rw (k .size) at space)) (ap (λ (x : Depth). fitOf x w h) (sym row))
+      rw (k .checks, le-ltb (length before) (w * h * depthOf bpp .bytes) (rw (k .size) at space)) (ap (λ (x : Depth). accept x w h) (sym row))
 
   pub reports-decoded : (after : List ℕ) (s : Stepped) → length after ≡ length before → Bytes src
       → Ran (frameOf (record { depth = d; width = w; total = w * h })) src before after s → {r : Report} → Reports s (d .format) r

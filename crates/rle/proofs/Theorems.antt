@@ -11,7 +11,7 @@ use Rattle.picture.specs.declared.outcome.Outcome.{Outcome}
 use Rattle.picture.specs.declared.outcome.Outcome.the-variants.{Ok, Err}
 use Rattle.picture.specs.declared.outcome.RleError.the-variants.{InvalidBpp, EmptyImage, DimensionsTooLarge, BufferTooShort, BadOrderCode, NotEnoughBytes, InvalidImageSize, UnexpectedZeroLength}
 use Rattle.picture.specs.Pixels.{bytesOf}
-use Rattle.picture.specs.Sizes.{Refusal, Checked, away, fit, checked, withSpace}
+use Rattle.picture.specs.Sizes.{Refusal, Checked, rejected, accepted, checked, withSpace}
 use Rattle.rle.specs.Decode.{Result, ofChecked, result, resultIn}
 use Rattle.picture.specs.Outcomes.{refusalIn}
 use Rattle.rle.specs.Report.{Agrees, Decompresses}
@@ -19,8 +19,8 @@ use Rattle.rle.specs.Guarantees.{spaceFor, HasSpace, Defined, NoOldByte,
 
 space-is : (given : ℕ) (c : Checked) → spaceFor given c → withSpace given c ≡ c
 unfolding withSpace
-space-is given (away r) h = refl
-space-is given (fit f k) h = rw (le-ltb given (f .total * f .bytes) h)
+space-is given (rejected r) h = refl
+space-is given (accepted f k) h = rw (le-ltb given (f .total * f .bytes) h)
 
 -- with space the call's result is that of the definition, which sees no target
 pub with-space : (src : List ℕ) (bpp w h : ℕ) (before after : List ℕ) (r : Report) → Decompresses src bpp w h before after r → HasSpace before bpp w h

@@ -5,7 +5,7 @@ use mathlib.Core.Bool.{Bool, true, false}
 use Prim.Native.Nat.{ℕ, zero, suc, _+_, _-_, _*_, _/_, _%_, _^_, min}
 use lib.Dec.{ltb, leb, eqb}
 use lib.ListN.{length, getD, drop}
-use Rattle.picture.specs.Sizes.{Refusal, refusal, Frame, Checked, away, fit, checked, withSpace}
+use Rattle.picture.specs.Sizes.{Refusal, refusal, Frame, Checked, rejected, accepted, checked, withSpace}
 use Rattle.rle.specs.Orders.{Kind, BgRun, FgRun, FgBgImage, ColorRun, ColorImage, SetFgRun, SetFgBgImage, DitheredRun, SpecialFgBg1, SpecialFgBg2, White, Black, NoOrder, Head, head, noHead, headOf}
 use Rattle.picture.specs.Pixels.{Pixel, pick, firstPixel, pixelAt, xorPixel}
 
@@ -247,8 +247,8 @@ ofRun f k (paused s) = resultOf (refusal 0 0 0) 0 (f .bytes) s
 ofRun f k (stopped r s) = resultOf r 0 (f .bytes) s
 
 unfoldable pub ofChecked : List ℕ → Checked → Result
-ofChecked stream (away r) = record { refusal = r; format = 0; bytes = 0; painted = []; orders = 0 }
-ofChecked stream (fit f k) = ofRun f k (decode f stream)
+ofChecked stream (rejected r) = record { refusal = r; format = 0; bytes = 0; painted = []; orders = 0 }
+ofChecked stream (accepted f k) = ofRun f k (decode f stream)
 
 -- the definition: what decoding gives in every target that has space
 unfoldable pub result : List ℕ → ℕ → ℕ → ℕ → Result

@@ -9,14 +9,14 @@ use Rattle.rle.specs.declared.report.Report.{Report}
 use Rattle.picture.specs.declared.outcome.Outcome.{Outcome}
 use Rattle.picture.specs.declared.outcome.Outcome.the-variants.{Ok, Err}
 use Rattle.picture.specs.Pixels.{bytesOf}
-use Rattle.picture.specs.Sizes.{Checked, away, fit, checked}
+use Rattle.picture.specs.Sizes.{Checked, rejected, accepted, checked}
 use Rattle.rle.specs.Decode.{result}
 use Rattle.picture.specs.Outcomes.{refusalIn, formatIn}
 
 -- a target of `given` bytes has space for the picture; where refusal 1, 2 or 3 comes, every target has
 abbrev pub spaceFor : ℕ → Checked → Type 0
-spaceFor given (away r) = Unit {0}
-spaceFor given (fit f k) = f .total * f .bytes ≤ given
+spaceFor given (rejected r) = Unit {0}
+spaceFor given (accepted f k) = f .total * f .bytes ≤ given
 
 abbrev pub HasSpace : List ℕ → ℕ → ℕ → ℕ → Type 0
 HasSpace target bpp w h = spaceFor (length target) (checked bpp w h)

@@ -128,7 +128,7 @@ unfolding tiles decoded painting
     Sizes.noDepth
     Sizes.depthIndex
     Sizes.depthOf
-    Sizes.fitOf
+    Sizes.accept
     Sizes.checked
     Decode.resultOf
     Decode.ofRun

@@ -10,7 +10,7 @@ use lib.Dec.{eqb}
 use lib.ListN.{length, getD, take}
 use lib.Seq.{ext-getD, getD-take, length-take-le}
 use borrow.Author.Tests.{eq-eqb, ne-eqb, lt-ltb, eqb-true, eqb-false}
-use Rattle.picture.specs.Sizes.{Checked, away, fit, checked, sizeOf}
+use Rattle.picture.specs.Sizes.{Checked, rejected, accepted, checked, sizeOf}
 use Rattle.rle.specs.Decode.{ofChecked, result}
 use Rattle.tile_text.specs.Text.{textOf, Tile}
 use Rattle.tile_text.specs.Answer.{badTileText, limited, answerOf, Answers, tile, noTile}
@@ -51,8 +51,8 @@ complete t w h b s g e = ap (fed start) e ∙ text-read w h b s g
 limited-result : (c : Checked) (n : ℕ) (s u : List ℕ) → n ≡ min 8193 (length u) → (length u ≤ 8192 → s ≡ u)
     → limited (sizeOf c) n (ofChecked s c) ≡ limited (sizeOf c) (length u) (ofChecked u c)
 unfolding limited sizeOf ofChecked
-limited-result (away r) n s u e f = refl
-limited-result (fit g k) n s u e f =
+limited-result (rejected r) n s u e f = refl
+limited-result (accepted g k) n s u e f =
     by-less 8192 (length u) (λ long. rw (lt-ltb 8192 n (omega arith), lt-ltb 8192 (length u) long))
     (λ short. let same : n ≡ length u = omega arith in rw (same, f short))
 

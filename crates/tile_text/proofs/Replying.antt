@@ -9,7 +9,7 @@ use lib.ListN.{length, take, length-append, length-drop}
 use lib.Seq.{take-append-seam}
 use borrow.Author.Tests.{eq-eqb, ne-eqb, lt-ltb, le-ltb}
 use Rattle.picture.specs.Pixels.{pick, bytesOf}
-use Rattle.picture.specs.Sizes.{Refusal, refusal, Checked, away, fit, Frame, checked, fitOf, depthOf, bytes, refused, sizeOf}
+use Rattle.picture.specs.Sizes.{Refusal, refusal, Checked, rejected, accepted, Frame, checked, accept, depthOf, bytes, refused, sizeOf}
 use Rattle.rle.specs.Decode.{Result, Run, ended, paused, stopped, ofChecked, ofRun, resultOf, decode, result}
 use Rattle.picture.specs.Outcomes.{refusalIn, formatIn}
 use Rattle.rle.specs.Report.{Agrees, Decompresses}
@@ -30,10 +30,10 @@ nothing-painted : (r : Refusal) (xs : List ℕ) (v : Fields) → v ≡ fieldsOf 
 unfolding refusedWith bytesOf
 nothing-painted r xs v e = record { fields = e; target = refl; fits = omega arith }
 
-away-result : (c : Checked) (r : Refusal) (stream : List ℕ) → refused r ≡ sizeOf c → ofChecked stream c ≡ refusedWith r
+rejected-result : (c : Checked) (r : Refusal) (stream : List ℕ) → refused r ≡ sizeOf c → ofChecked stream c ≡ refusedWith r
 unfolding sizeOf ofChecked refusedWith
-away-result (away q) r stream e = let same : q ≡ r = cc in rw same
-away-result (fit f k) r stream e = apart cc
+rejected-result (rejected q) r stream e = let same : q ≡ r = cc in rw same
+rejected-result (accepted f k) r stream e = apart cc
 
 fit-limited : (c : Checked) (n streamBytes : ℕ) (e : Result) → bytes n ≡ sizeOf c
     → limited (sizeOf c) streamBytes e ≡ pick (ltb 65536 n) tileTooLarge (pick (ltb 8192 streamBytes) tileTooLarge e)
@@ -50,7 +50,7 @@ module _ (p : Parser) (stream xs : List ℕ) (v : Fields) where
         → Answered (replyOf p stream) xs xs v
     unfolding replyOf decoded result limited
     answered-refused r s e =
-        rw (eq-eqb _ _ whole, ← s, away-result (checked (p .bpp) (p .width) (p .height)) r (take (p .count) stream) s) (nothing-painted r xs v e)
+        rw (eq-eqb _ _ whole, ← s, rejected-result (checked (p .bpp) (p .width) (p .height)) r (take (p .count) stream) s) (nothing-painted r xs v e)
 
     module _ (n : ℕ) (size : bytes n ≡ sizeOf (checked (p .bpp) (p .width) (p .height))) where
       -- the picture is over its limit, or else the stream is
@@ -75,13 +75,13 @@ run-bytes f k (paused s) = refl
 run-bytes f k (stopped r s) = refl
 
 fit-bytes : (b w h n : ℕ) (stream : List ℕ) → bytes n ≡ sizeOf (checked b w h) → result stream b w h .bytes ≡ depthOf b .bytes
-unfolding result ofChecked fitOf
+unfolding result ofChecked accept
 fit-bytes b w h n stream e = rw (sized b w h n e .checks) (run-bytes _ _ (decode _ stream))
 
 module _ (p : Parser) (stream before after : List ℕ) (r : Report) (within : Within p stream before) where
   decodes : Decompresses (take (p .count) stream) (p .bpp) (p .width) (p .height) before after r
       → Agrees (take (p .count) stream) before after (p .width * p .height) r (decoded p stream)
-  unfolding decoded fitOf
+  unfolding decoded accept
   decodes d =
       let k = sized (p .bpp) (p .width) (p .height) (within .size) (within .picture) in
       with-space _ _ _ _ before after r d (rw (k .checks) (omega (arith, k .size, within .small, within .space)))

@@ -70,7 +70,7 @@ unfolding answerOf linesOf formatName Answer.limited Answer.formatKey Answer.ref
     Sizes.depths
     Sizes.depthIndex
     Sizes.depthOf
-    Sizes.fitOf
+    Sizes.accept
     Sizes.checked
     Decode.resultOf
     Decode.ofRun

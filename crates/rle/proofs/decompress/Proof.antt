@@ -1,7 +1,7 @@
 -- `decompress` meets its contract: refused for depth or sizes, for its target, or decoded. Assumes nothing.
 use mathlib.Core.Path.{refl}
 use Rattle.picture.proofs.Sizes.{matched, sized, few}
-use Rattle.rle.proofs.Calls.{reports-away, reports-short, frame-good, format-good, reports-decoded}
+use Rattle.rle.proofs.Calls.{reports-rejected, reports-short, frame-good, format-good, reports-decoded}
 use native.Mathlib.Omega.{arith}
 use borrow.Author.Needs.{needs}
 use Rattle.rle.proofs.decompress.Statement.{statement}
@@ -49,7 +49,7 @@ report-of-requires c κs =
 returns-2 : tie.Need-returns-2
 returns-2 c =
     let a = c .before .before .before .before .before .before .before .args in
-    reports-away (a .src .now) (a .dst .now) (a .bpp) (a .width) (a .height) _ (c .not-decoded .ensures) (matched (c .before .before .size .given .1) (c .before .before .before .before .picture-size .ensures))
+    reports-rejected (a .src .now) (a .dst .now) (a .bpp) (a .width) (a .height) _ (c .not-decoded .ensures) (matched (c .before .before .size .given .1) (c .before .before .before .before .picture-size .ensures))
 
 same-length : tie.Need-same-length
 same-length c = search needs
