@@ -1,6 +1,6 @@
 -- The two forms of contract that most functions of this crate have: an answer for a slice and a place, and the same answer for the reader that has them.
--- Each is stated once, for any type R of answers and any definition `find` that gives the answer of the bytes and the place. The walks in `Peek`, `From` and
--- `Advance` call functions of these forms: a callee's own contract is its form by computation. Assumes nothing.
+-- Each is stated once, for any type R of answers and any definition `find` that gives the answer of the bytes and the place. The walks in `Peek` and `From`
+-- call functions of these forms: a callee's own contract is its form by computation. Assumes nothing.
 use mathlib.Core.Path.{_≡_}
 use Prim.Native.Nat.{ℕ}
 use mathlib.Core.List.{List, [], _∷_}

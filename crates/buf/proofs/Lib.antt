@@ -1,4 +1,3 @@
-pub mod Advance
 pub mod Answers
 pub mod Contracts
 pub mod From

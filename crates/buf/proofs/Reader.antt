@@ -19,7 +19,7 @@ use denote.Slice.{sliceVal, ShrSlice, shr-slice-copy}
 use denote.Steps.{owned, nothing}
 use denote.Struct.Declared.{Declared}
 use denote.Struct.Laws as LL
-use denote.Struct.Rest.{all-own, ownAt, rest, own-open, own-out, own-put, own-shut}
+use denote.Struct.Rest.{all-own, ownAt, rest, own-open, own-out, own-shut}
 use denote.Struct.Values.{Values}
 use Rattle.buf.specs.declared.Buf.{Buf}
 use Rattle.buf.proofs.Buf as T
@@ -55,8 +55,3 @@ module _ (α : NamedLft) where
     reader-too s n fits =
         qed W (‵ (SliceOwn s) ∷ []) ∵ use1 W (‵ (SliceOwn s) ⊛ ‵ (SliceOwn s)) (shr-slice-copy 𝓤 H A W (α .mir) (α .lft) u8 .twice s (slice-value s ∷ [])) $ split ! $ frame ! $
         nothing ! $ owned ! usize (Is usize) (uint-makes 𝓤 H A W w64) n _ (refl, fits) $ fjoin ! $ move ! (1 ∷ 0 ∷ []) $ fjoin ! $ by ! (own-shut 𝓤 H A W (T.the-type α) (T′.the-laws α) (s, (n, tt)))
-
-    -- the reader at another place of its slice: the place's facts are made anew
-    pub moves : (d : Buf) (n : ℕ) → n < 2 ^ 64 → ent 𝓤 (sem 𝓤 H A (ReaderOwn d)) (sem 𝓤 H A (ReaderOwn record { inner = d .inner; pos = n }))
-    moves d n fits =
-        qed W (‵ (ReaderOwn d) ∷ []) ∵ owned ! usize (Is usize) (uint-makes 𝓤 H A W w64) n _ (refl, fits) $ move ! (1 ∷ 0 ∷ []) $ by ! (own-put 𝓤 H A W (T.the-type α) (T′.the-laws α) 1 (d .inner, (d .pos, tt)) n (T′.lowered d))

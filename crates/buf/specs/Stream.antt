@@ -3,20 +3,14 @@
 use Prim.Native.Nat.{ℕ, _+_, _*_, _-_}
 use mathlib.Core.Bool.{Bool, true, false}
 use mathlib.Core.List.{List}
-use lib.Dec.{eqb, leb}
+use lib.Dec.{leb}
 use lib.ListN.{length, getD}
-use denote.Ref.{now}
-use Rattle.buf.specs.declared.Buf.{Buf}
 use Rattle.buf.specs.declared.Read.{Read}
 use Rattle.buf.specs.declared.Read.the-variants.{Value, NotEnoughBytes}
 
 -- the number of bytes left at a place
 unfoldable pub remaining : List ℕ → ℕ → ℕ
 remaining s pos = length s - pos
-
--- whether no byte is left at a place
-unfoldable pub atEnd : List ℕ → ℕ → Bool
-atEnd s pos = eqb (remaining s pos) 0
 
 abbrev pick : {A : Type 0} → Bool → A → A → A
 pick true a b = a
@@ -33,11 +27,3 @@ u8At s pos = answer 1 (remaining s pos) (getD s pos 0)
 -- the number in two bytes at a place
 unfoldable pub u16At : List ℕ → ℕ → Read
 u16At s pos = answer 2 (remaining s pos) (getD s pos 0 + getD s (pos + 1) 0 * 256)
-
--- the place after n bytes; where fewer are left, the place itself
-unfoldable pub nextAt : List ℕ → ℕ → ℕ → ℕ
-nextAt s pos n = pick (leb n (remaining s pos)) (pos + n) pos
-
--- the reader after n bytes, in the same slice
-abbrev pub movedOn : Buf → ℕ → Buf
-movedOn b n = record { inner = b .inner; pos = nextAt (now (b .inner)) (b .pos) n }
