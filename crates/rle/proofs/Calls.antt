@@ -8,15 +8,15 @@ use lib.ListN.{length, take-append-drop}
 use lib.Seq.{length-take-le}
 use borrow.Author.Tests.{lt-ltb, le-ltb}
 use Rattle.picture.specs.declared.depth.Depth.{Depth as CodeDepth}
-use Rattle.rle.specs.declared.order.Stepped.{Stepped}
-use Rattle.rle.specs.declared.order.Answer.{Answer}
-use Rattle.rle.specs.declared.order.Answer.the-variants.{Done, Refused}
+use Rattle.rle.specs.declared.state.Stepped.{Stepped}
+use Rattle.rle.specs.declared.plan.Answer.{Answer}
+use Rattle.rle.specs.declared.plan.Answer.the-variants.{Done, Refused}
 use Rattle.rle.specs.declared.report.Report.{Report}
 use Rattle.picture.specs.declared.outcome.RleError.{RleError}
 use Rattle.picture.specs.declared.outcome.RleError.the-variants.{BufferTooShort}
 use Rattle.picture.specs.Pixels.{bytesOf}
-use Rattle.picture.specs.Sizes.{Frame, Depth, depthIndex, depthOf, Checked, rejected, accepted, accept, checked, withSpace, bytes, refused, sizeOf}
-use Rattle.rle.specs.Decode.{State, Run, decode, resultOf, ofRun, ofChecked, resultIn}
+use Rattle.picture.specs.Sizes.{Frame, Depth, depthOf, Checked, rejected, accept, checked, withSpace, bytes, refused, sizeOf}
+use Rattle.rle.specs.Decode.{State, decode, resultOf, ofRun, ofChecked, resultIn}
 use Rattle.picture.specs.Outcomes.{refusalOf, depthIn}
 use Rattle.rle.specs.Report.{Agrees, Decompresses}
 use Rattle.rle.specs.Contracts.{frameOf, stateOf, Framed, Ran, runOf, refusalAfter, formatAfter, Reports, notDecoded}
@@ -27,10 +27,10 @@ use Rattle.rle.proofs.Bounds.{Bytes, last, decode-bounds}
 
 -- ---- refusals before the stream
 
-rejected-is : (src before : List ℕ) (total : ℕ) (c : Checked) (e : RleError) → c ≡ rejected (refusalOf e)
+rejected-is : (src before : List ℕ) (total : ℕ) {c : Checked} (e : RleError) → c ≡ rejected (refusalOf e)
     → Agrees src before before total (notDecoded e) (ofChecked src c)
 unfolding ofChecked bytesOf
-rejected-is src before total c e p =
+rejected-is src before total e p =
     rw p
     (record {
       refusal = refl;
@@ -44,12 +44,12 @@ rejected-is src before total c e p =
       bounded = zero-le;
     })
 
-module _ (src before : List ℕ) (bpp w h : ℕ) {r : Report} (e : RleError) (is : r ≡ notDecoded e) where
+module _ (src before : List ℕ) (bpp w h : ℕ) {r : Report} {e : RleError} (is : r ≡ notDecoded e) where
   pub reports-rejected : refused (refusalOf e) ≡ sizeOf (checked bpp w h) → Decompresses src bpp w h before before r
   unfolding resultIn withSpace
   reports-rejected s =
       rw is
-      (rejected-is src before (w * h) (withSpace (length before) (checked bpp w h)) e
+      (rejected-is src before (w * h) e
       (ap (λ (c : Checked). withSpace (length before) c) (size-rejected (checked bpp w h) (refusalOf e) s)))
 
   pub reports-short : (n : ℕ) → bytes n ≡ sizeOf (checked bpp w h) → length before < n → e ≡ BufferTooShort n (length before)
@@ -58,39 +58,37 @@ module _ (src before : List ℕ) (bpp w h : ℕ) {r : Report} (e : RleError) (is
   reports-short n s l q =
       let k = sized bpp w h n s in
       rw is
-      (rejected-is src before (w * h) (withSpace (length before) (checked bpp w h)) e
+      (rejected-is src before (w * h) e
       (rw (k .checks, q, k .size) (rw (lt-ltb (length before) (w * h * depthOf bpp .bytes) (rw (k .size) at l)))))
 
 -- ---- the stream
 
-module _ (f : Frame) (k : ℕ) (src before after : List ℕ) (s : Stepped) (frame : Framed (length before) f) (same : length after ≡ length before)
-    (octets : Bytes src) (ran : Ran f src before after s) {r : Report} (reports : Reports s k r) where
-  result-is : resultOf (refusalAfter (s .answer)) (formatAfter (s .answer) k) (f .bytes) (stateOf f src after (s .state)) ≡ ofRun f k (decode f src)
-  unfolding ofRun
-  result-is = go (s .answer) ∙ ap (λ (x : Run). ofRun f k x) (ran .is)
-    where
-      go : (a : Answer) → resultOf (refusalAfter a) (formatAfter a k) (f .bytes) (stateOf f src after (s .state)) ≡ ofRun f k (runOf a (stateOf f src after (s .state)))
-      go Done = refl
-      go (Refused e) = refl
+-- the result by the answer a that the code ends with
+pub result-is : (f : Frame) (k : ℕ) (a : Answer) (s : State) → resultOf (refusalAfter a) (formatAfter a k) (f .bytes) s ≡ ofRun f k (runOf a s)
+unfolding ofRun
+result-is f k Done s = refl
+result-is f k (Refused e) s = refl
 
+last-is : (a : Answer) (s : State) → last (runOf a s) ≡ s
+last-is Done s = refl
+last-is (Refused e) s = refl
+
+module _ (f : Frame) (k : ℕ) (src before after : List ℕ) (s : Stepped) (frame : Framed (length before) f) (same : length after ≡ length before)
+    (octets : Bytes src) (ran : Ran f src before after s) {r : Report} (reports : Reports (s .answer) (s .state .pixels) (s .state .orders) k r) where
   fits : s .state .pixels * f .bytes ≤ length after
   fits = rw same (omega (arith, frame .fits, mul-le-mul-right {m = s .state .pixels} {n = f .total} (f .bytes) (ran .sound .within)))
 
-  last-is : (a : Answer) → last (runOf a (stateOf f src after (s .state))) ≡ stateOf f src after (s .state)
-  last-is Done = refl
-  last-is (Refused e) = refl
-
   bounded-is : s .state .pixels ≤ 26214 * length src
   bounded-is =
-      let e : last (decode f src) ≡ stateOf f src after (s .state) = ap last (sym (ran .is)) ∙ last-is (s .answer) in
+      let e : last (decode f src) ≡ stateOf f src after (s .state) = ap last (sym (ran .is)) ∙ last-is (s .answer) _ in
       let n : length (last (decode f src) .painted) ≡ s .state .pixels =
       ap (λ (x : State). length (x .painted)) e ∙ length-pixelsOf (f .bytes) (s .state .pixels) after in
       omega (arith, n, decode-bounds f src (frame .low) octets .1)
 
-  pub reports-run : Agrees src before after (f .total) r (ofRun f k (decode f src))
+  reports-run : Agrees src before after (f .total) r (ofRun f k (decode f src))
   unfolding resultOf
   reports-run =
-      rw (← result-is)
+      rw (← ran .is, ← result-is)
       (record {
         refusal = reports .refusal;
         format = reports .format;
@@ -107,37 +105,30 @@ module _ (f : Frame) (k : ℕ) (src before after : List ℕ) (s : Stepped) (fram
         bounded = rw (reports .pixels) bounded-is;
       })
 
-module _ (src before : List ℕ) (bpp w h n : ℕ) (is : bytes n ≡ sizeOf (checked bpp w h)) (space : n ≤ length before)
-    (d : CodeDepth) (row : depthIn d ≡ depthOf bpp) where
-  good : Good (depthIn d)
+module _ (bpp w h : ℕ) {n : ℕ} (is : bytes n ≡ sizeOf (checked bpp w h)) {d : CodeDepth} (row : depthIn d ≡ depthOf bpp) where
+  pub good : Good (depthIn d)
   good = rw row (depth-good bpp (sized bpp w h n is .known))
 
-  pub frame-good : Framed (length before) (frameOf (record { depth = d; width = w; total = w * h }))
-  frame-good =
-      let k = sized bpp w h n is in
-      let b : d .bytes ≡ depthOf bpp .bytes = ap (λ (x : Depth). x .bytes) row in
-      record {
-        low = good .low;
-        high = good .high;
-        wide = k .wide;
-        few = few (k .width) (k .height);
-        fits = rw (b, ← k .size) space;
-        white = good .white;
-        black = good .black;
-      }
+  module _ (before : List ℕ) (space : n ≤ length before) where
+    pub frame-good : Framed (length before) (frameOf (record { depth = d; width = w; total = w * h }))
+    frame-good =
+        let k = sized bpp w h n is in
+        let b : d .bytes ≡ depthOf bpp .bytes = ap (λ (x : Depth). x .bytes) row in
+        record {
+          low = good .low;
+          high = good .high;
+          wide = k .wide;
+          few = few (k .width) (k .height);
+          fits = rw (b, ← k .size) space;
+          white = good .white;
+          black = good .black;
+        }
 
-  pub format-good : depthIndex (d .format) < 4
-  format-good = good .listed
-
-  fits-is : withSpace (length before) (checked bpp w h) ≡ accepted (frameOf (record { depth = d; width = w; total = w * h })) (d .format)
-  unfolding withSpace accept
-  fits-is =
-      let k = sized bpp w h n is in
-      rw (k .checks, le-ltb (length before) (w * h * depthOf bpp .bytes) (rw (k .size) at space)) (ap (λ (x : Depth). accept x w h) (sym row))
-
-  pub reports-decoded : (after : List ℕ) (s : Stepped) → length after ≡ length before → Bytes src
-      → Ran (frameOf (record { depth = d; width = w; total = w * h })) src before after s → {r : Report} → Reports s (d .format) r
-      → Decompresses src bpp w h before after r
-  unfolding resultIn ofChecked
-  reports-decoded after s same octets ran reports =
-      rw fits-is (reports-run _ (d .format) src before after s frame-good same octets ran reports)
+    pub reports-decoded : (src after : List ℕ) (s : Stepped) → length after ≡ length before → Bytes src
+        → Ran (frameOf (record { depth = d; width = w; total = w * h })) src before after s
+        → {r : Report} → Reports (s .answer) (s .state .pixels) (s .state .orders) (d .format) r → Decompresses src bpp w h before after r
+    unfolding resultIn ofChecked withSpace accept
+    reports-decoded src after s same octets ran reports =
+        let k = sized bpp w h n is in
+        rw (k .checks, le-ltb (length before) (w * h * depthOf bpp .bytes) (rw (k .size) at space), ← row)
+        (reports-run _ (d .format) src before after s frame-good same octets ran reports)

@@ -1,70 +1,74 @@
--- Laws of the first row's end. Assumes nothing.
+-- Laws of the first row's end: before a row is painted it changes nothing, nor does it a second time. Assumes nothing.
 use mathlib.Core.Path.{_≡_, refl, ap, sym, _∙_}
 use mathlib.Core.List.{List}
 use mathlib.Core.Bool.{Bool, true, false}
 use Prim.Native.Nat.{ℕ, _≤_, _<_, zero-le}
 use lib.Dec.{ltb}
-use borrow.Author.Tests.{le-ltb, lt-ltb, ltb-false}
-use Rattle.rle.specs.declared.order.Frame.{Frame as CodeFrame}
-use Rattle.rle.specs.declared.order.State.{State as CodeState}
+use lib.ListN.{drop}
+use borrow.Author.Tests.{lt-ltb, le-ltb, ltb-true, ltb-false}
+use Rattle.rle.specs.declared.state.Frame.{Frame as CodeFrame}
+use Rattle.rle.specs.declared.state.State.{State as CodeState}
 use Rattle.picture.specs.Pixels.{pick}
-use Rattle.rle.specs.Decode.{endFirstRow}
-use Rattle.rle.specs.Contracts.{Sound, frameOf, stateOf, rowAbove, atPos, firstRowEnded}
+use Rattle.rle.specs.Orders.{headOf}
+use Rattle.rle.specs.Decode.{State, orderFrom, endFirstRow, step}
+use Rattle.rle.specs.Contracts.{Sound, frameOf, stateOf, rowAbove, firstRowEnded}
 use Rattle.rle.proofs.Pixels.{length-pixelsOf}
+use Rattle.rle.proofs.Lengths.{both}
+
+-- the marks of a row that stays
+kept : (first stays insert : Bool) → (first ≡ true → stays ≡ true)
+    → (pick first (pick stays insert false) insert ≡ insert) × (pick first stays false ≡ first)
+kept false stays insert h = (refl, refl)
+kept true stays insert h = (rw (h refl), h refl)
+
+row-marked : (first stays : Bool) (k w : ℕ) → ltb k w ≡ stays → rowAbove first w ≤ k → rowAbove (pick first stays false) w ≤ k
+row-marked false stays k w e h = h
+row-marked true true k w e h = zero-le
+row-marked true false k w e h = ltb-false k w e
 
 module _ (f : CodeFrame) (s : CodeState) where
-  unfoldable pub with-marks : Bool → Bool → CodeState
-  with-marks i t =
-      record {
+  -- a row that is not yet painted does not end
+  pub row-stays : (s .«first_row» ≡ true → s .pixels < f .width) → firstRowEnded f s ≡ s
+  row-stays h =
+      let e = kept (s .«first_row») (ltb (s .pixels) (f .width)) (s .insert) (λ t. lt-ltb (s .pixels) (f .width) (h t)) in
+      λ i. record {
         pos = s .pos;
         pixels = s .pixels;
         foreground = s .foreground;
-        insert = i;
-        «first_row» = t;
+        insert = e .0 i;
+        «first_row» = e .1 i;
         orders = s .orders;
       }
 
-  -- both marks as the mark before leaves them
-  marked : Bool → CodeState
-  marked t =
-      with-marks (pick t (pick (ltb (s .pixels) (f .width)) (s .insert) false) (s .insert)) (pick t (ltb (s .pixels) (f .width)) false)
+  -- a row that is painted ends
+  pub row-ends : s .«first_row» ≡ true → f .width ≤ s .pixels
+      → firstRowEnded f s
+      ≡ record { foreground = s .foreground; pos = s .pos; insert = false; pixels = s .pixels; «first_row» = false; orders = s .orders }
+  row-ends on h = rw (on, le-ltb (s .pixels) (f .width) h)
 
-  pub mark-off : s .«first_row» ≡ false → s ≡ firstRowEnded f s
-  unfolding with-marks marked
-  mark-off e = ap (λ (t : Bool). with-marks (s .insert) t) e ∙ ap marked (sym e)
+  pub row-begun : firstRowEnded f s .«first_row» ≡ true → s .pixels < f .width
+  row-begun e = ltb-true (s .pixels) (f .width) (both (s .«first_row») (ltb (s .pixels) (f .width)) e .1)
 
-  pub mark-keep : s .«first_row» ≡ true → s .pixels < f .width → s ≡ firstRowEnded f s
-  unfolding with-marks marked
-  mark-keep e h =
-      let stays = lt-ltb (s .pixels) (f .width) h in
-      ap (λ (t : Bool). with-marks (s .insert) t) (e ∙ sym stays)
-      ∙ ap (λ (t : Bool). with-marks (pick t (s .insert) false) (ltb (s .pixels) (f .width))) (sym stays)
-      ∙ ap marked (sym e)
-
-  pub mark-end : s .«first_row» ≡ true → f .width ≤ s .pixels → with-marks false false ≡ firstRowEnded f s
-  unfolding with-marks marked
-  mark-end e h =
-      ap (λ (t : Bool). with-marks (pick t (s .insert) false) t) (sym (le-ltb (s .pixels) (f .width) h)) ∙ ap marked (sym e)
-
+  -- the code's is the definition's
   pub mark-is : (src dst : List ℕ) → stateOf (frameOf f) src dst (firstRowEnded f s) ≡ endFirstRow (frameOf f) (stateOf (frameOf f) src dst s)
   unfolding endFirstRow
   mark-is src dst = rw length-pixelsOf
 
-row-marked : (t : Bool) (p w : ℕ) → rowAbove t w ≤ p → rowAbove (pick t (ltb p w) false) w ≤ p
-row-marked false p w h = h
-row-marked true p w h = go (ltb p w) refl
-  where
-    go : (b : Bool) → ltb p w ≡ b → rowAbove b w ≤ p
-    go true e = zero-le
-    go false e = ltb-false p w e
+  pub sound-marked : Sound (frameOf f) s → Sound (frameOf f) (firstRowEnded f s)
+  sound-marked sound =
+      record {
+        within = sound .within;
+        row = row-marked (s .«first_row») (ltb (s .pixels) (f .width)) (s .pixels) (f .width) refl (sound .row);
+        foreground = sound .foreground;
+        counted = sound .counted;
+      }
 
-pub sound-marked : (f : CodeFrame) (size : ℕ) (s : CodeState) (pos : ℕ) → Sound (frameOf f) size s → pos ≤ size
-    → Sound (frameOf f) size (atPos (firstRowEnded f s) pos)
-sound-marked f size s pos sound h =
-    record {
-      place = h;
-      within = sound .within;
-      row = row-marked (s .«first_row») (s .pixels) (f .width) (sound .row);
-      foreground = sound .foreground;
-      counted = sound .counted;
-    }
+-- an order begins with it, so it may have come before
+pub step-marked : (f : CodeFrame) (s : CodeState) (src dst : List ℕ)
+    → step (frameOf f) (stateOf (frameOf f) src dst (firstRowEnded f s)) ≡ step (frameOf f) (stateOf (frameOf f) src dst s)
+unfolding step
+step-marked f s src dst =
+    let t = firstRowEnded f s in
+    let again = row-stays f t (row-begun f s) in
+    ap (λ (x : State). orderFrom (frameOf f) x (headOf (drop (s .pos) src)))
+    (sym (mark-is f t src dst) ∙ ap (λ (x : CodeState). stateOf (frameOf f) src dst x) again ∙ mark-is f s src dst)

@@ -1,43 +1,131 @@
--- Laws of run lengths. Assumes nothing.
-use mathlib.Core.Path.{_≡_, _∙_, refl}
-use mathlib.Core.List.{List}
-use Prim.Native.Nat.{ℕ, zero, suc, _+_, _*_, _-_, _%_, _≤_, _<_}
-use native.Mathlib.Nat.{le-refl, add-zero, mul-one}
+-- Laws of headers and run lengths: what the code's tables say of the definition's rows, and what reading a length gives. Assumes nothing.
+use mathlib.Core.Path.{_≡_, refl, ap, _∙_}
+use mathlib.Core.Bool.{Bool, true, false}
+use mathlib.Core.List.{List, [], _∷_}
+use Prim.Native.Nat.{ℕ, suc, _+_, _*_, _-_, _≤_, _<_}
+use native.Mathlib.Nat.{le-refl, add-zero}
 use native.Mathlib.Omega.{arith}
+use lib.Dec.{ltb, leb, eqb}
 use lib.ListN.{length, getD, drop, length-drop}
 use lib.Seq.{drop-drop, getD-drop}
-use borrow.Author.Tests.{le-leb, lt-leb, le-ltb, lt-ltb, eq-eqb, ne-eqb}
+use borrow.Author.Tests.{le-leb, lt-leb, lt-ltb, eq-eqb, ne-eqb, leb-true, ltb-true, eqb-true}
 use Rattle.rle.specs.declared.code.RunLength.{RunLength as CodeLength}
 use Rattle.rle.specs.declared.code.RunLength.the-variants.{Of, NotRead}
 use Rattle.picture.specs.declared.outcome.RleError.the-variants.{NotEnoughBytes, UnexpectedZeroLength}
-use Rattle.rle.specs.Orders.{RunLength, runLength, shortLength, megaMegaLength, withBytes, lengthOf, kindRow, rows, row, noRow, lengthIn}
+use Rattle.picture.specs.Pixels.{pick}
+use Rattle.picture.proofs.Tests.{by-test}
+use Rattle.rle.specs.Orders.{Row, rows, noRow, hasHeader, rowIn, rowOf, Place, nowhere, inHeader, inByte, inTwoBytes, placeOf, ownLength, megaOf, RunLength, runLength, megaLength, megaMegaLength, withBytes, lengthAt, lengthOf}
+use Rattle.rle.specs.Codes.{kindRow, numberIn, kindNumber, ownAt, lengthNumber, megaNumber, lengthTest, headerTest, headers-tested}
 use Rattle.rle.specs.Contracts.{Reads}
+use Rattle.rle.proofs.Table.{same-tables}
+
+-- ---- headers
+
+row-at : (h : ℕ) (rs : List Row) → rowIn h rs ≡ getD rs (numberIn h rs) noRow
+unfolding rowIn numberIn
+row-at h [] = refl
+row-at h (r ∷ rs) = go (row-at h rs) (hasHeader h r)
+  where
+    go : rowIn h rs ≡ getD rs (numberIn h rs) noRow → (t : Bool) → pick t r (rowIn h rs) ≡ getD (r ∷ rs) (pick t 0 (suc (numberIn h rs))) noRow
+    go e true = refl
+    go e false = e
+
+-- the kind's number is the place of the header's row
+pub row-is : (h : ℕ) → rowOf h ≡ kindRow (kindNumber h)
+unfolding rowOf kindRow kindNumber
+row-is h = row-at h rows
+
+-- two tests that both say so
+pub both : (a b : Bool) → pick a b false ≡ true → (a ≡ true) × (b ≡ true)
+both true b e = (refl, e)
+both false b e = absurd (let z : _≡_ {A = ℕ} 0 1 = ap (λ (t : Bool). pick t 1 0) e in omega arith)
+
+-- what the computed test of a header says, by the place of its length
+abbrev pub Tested : Place → ℕ → ℕ → ℕ → Type 0
+Tested nowhere h n mega = (1 ≤ n) × (n ≤ 248)
+Tested inHeader h n mega = (1 ≤ n) × (n ≤ 248)
+Tested inByte h n mega = (h < 0xF0) × (mega ≡ megaNumber (kindNumber h))
+Tested inTwoBytes h n mega = 0xF0 ≤ h
+
+in-header : (n : ℕ) → pick (leb 1 n) (leb n 248) false ≡ true → (1 ≤ n) × (n ≤ 248)
+in-header n e = let t = both (leb 1 n) (leb n 248) e in (leb-true 1 n (t .0), leb-true n 248 (t .1))
+
+test-says : (p : Place) (h n mega : ℕ) → lengthTest p h n mega ≡ true → Tested p h n mega
+unfolding lengthTest
+test-says nowhere h n mega e = in-header n e
+test-says inHeader h n mega e = in-header n e
+test-says inByte h n mega e =
+    let t = both (ltb h 0xF0) (eqb mega (megaNumber (kindNumber h))) e in
+    (ltb-true h 0xF0 (t .0), eqb-true mega (megaNumber (kindNumber h)) (t .1))
+test-says inTwoBytes h n mega e = leb-true 0xF0 h e
+
+module _ (h : ℕ) (byte : h < 256) where
+  test : (lengthTest (placeOf (rowOf h) h) h (ownLength h (rowOf h .size) (rowOf h .lengths)) (megaOf (rowOf h .lengths)) ≡ true)
+      × (pick (ltb 7 (kindNumber h)) (eqb (lengthNumber h) (pick (ltb 9 (kindNumber h)) 1 8)) true ≡ true)
+  unfolding headerTest
+  test = both _ _ (same-tables true headerTest (λ _. true) 256 headers-tested h byte)
+
+  pub tested : Tested (placeOf (rowOf h) h) h (ownLength h (rowOf h .size) (rowOf h .lengths)) (megaOf (rowOf h .lengths))
+  tested = test-says (placeOf (rowOf h) h) h (ownLength h (rowOf h .size) (rowOf h .lengths)) (megaOf (rowOf h .lengths)) (test .0)
+
+  -- special fg/bg images have eight pixels; white, black and no order one
+  pub fixed-length : 7 < kindNumber h → lengthNumber h ≡ pick (ltb 9 (kindNumber h)) 1 8
+  fixed-length k = eqb-true (lengthNumber h) (pick (ltb 9 (kindNumber h)) 1 8) (rw (lt-ltb 7 (kindNumber h) k) at (test .1))
+
+-- 1 to 32 is added to a length of one byte
+pub mega-range : (k : ℕ) → (1 ≤ megaNumber k) × (megaNumber k ≤ 32)
+unfolding megaNumber
+mega-range k =
+    by-test In (eqb k 2) (λ _. (omega arith, omega arith))
+    (λ _. by-test In (eqb k 6) (λ _. (omega arith, omega arith))
+    (λ _. by-test In (ltb k 5) (λ _. (omega arith, omega arith)) (λ _. (omega arith, omega arith))))
+  where
+    In : ℕ → Type 0
+    In m = (1 ≤ m) × (m ≤ 32)
+
+-- ---- the place of a length, by the header's own length
+
+module _ (h : ℕ) (byte : h < 256) (rest : List ℕ) where
+  -- by the place: where the length stands in the header, in the next byte, or in two
+  by-place : (p : Place) (n mega : ℕ) → Tested p h n mega → (0 < ownAt p n → lengthAt p n mega rest ≡ runLength (ownAt p n) rest)
+      × (ownAt p n ≡ 0 → h < 0xF0 → lengthAt p n mega rest ≡ megaLength (megaNumber (kindNumber h)) rest)
+      × (ownAt p n ≡ 0 → 0xF0 ≤ h → lengthAt p n mega rest ≡ megaMegaLength rest)
+      × (ownAt p n ≤ 248)
+  unfolding ownAt lengthAt
+  by-place nowhere n mega t = (λ e. refl, λ e. absurd (omega (arith, t .0)), λ e. absurd (omega (arith, t .0)), t .1)
+  by-place inHeader n mega t = (λ e. refl, λ e. absurd (omega (arith, t .0)), λ e. absurd (omega (arith, t .0)), t .1)
+  by-place inByte n mega t =
+      (λ e. absurd (omega arith), λ e l. ap (λ (m : ℕ). megaLength m rest) (t .1), λ e l. absurd (omega (arith, t .0)), omega arith)
+  by-place inTwoBytes n mega t = (λ e. absurd (omega arith), λ e l. absurd (omega (arith, t)), λ e l. refl, omega arith)
+
+  pub by-header : (0 < lengthNumber h → lengthOf (rowOf h) h rest ≡ runLength (lengthNumber h) rest)
+      × (lengthNumber h ≡ 0 → h < 0xF0 → lengthOf (rowOf h) h rest ≡ megaLength (megaNumber (kindNumber h)) rest)
+      × (lengthNumber h ≡ 0 → 0xF0 ≤ h → lengthOf (rowOf h) h rest ≡ megaMegaLength rest)
+      × (lengthNumber h ≤ 248)
+  unfolding lengthNumber lengthOf
+  by-header = by-place (placeOf (rowOf h) h) (ownLength h (rowOf h .size) (rowOf h .lengths)) (megaOf (rowOf h .lengths)) (tested h byte)
+
+-- ---- reading a length
 
 pub reads-as : {src : List ℕ} {a : ℕ} {r : CodeLength} {x y : RunLength} → x ≡ y → Reads src a r x → Reads src a r y
 reads-as e d = record { is = d .is ∙ e; fits = d .fits }
 
 module _ (src : List ℕ) (a : ℕ) (inside : a ≤ length src) where
-  pub short-empty : (low n base k m : ℕ) → low ≡ 0 → (length src - a < 1) × (k ≡ 1) × (m ≡ length src - a)
-      → Reads src a (NotRead (NotEnoughBytes k m) a) (shortLength low n base (drop a src))
-  unfolding shortLength withBytes
-  short-empty low n base k m e (h, p, q) =
-      record { is = rw (eq-eqb low 0 e, length-drop, p, q, lt-leb 1 (length src - a) h); fits = (le-refl a, inside) }
+  pub own-read : (n : ℕ) → 0 < n → n ≤ 248 → Reads src a (Of n a) (runLength n (drop a src))
+  own-read n some few = record { is = refl; fits = (some, omega arith, le-refl a, inside) }
 
-  pub short-next : (low n base b : ℕ) → low ≡ 0 → (1 ≤ length src - a) × (b ≡ getD src a 0) → getD src a 0 ≤ 255 → 1 ≤ base → base ≤ 32
-      → Reads src a (Of (b + base) (a + 1)) (shortLength low n base (drop a src))
-  unfolding shortLength withBytes
-  short-next low n base b e (h, g) k l m =
+  pub mega-short : (mega k m : ℕ) → (length src - a < 1) × (k ≡ 1) × (m ≡ length src - a)
+      → Reads src a (NotRead (NotEnoughBytes k m) a) (megaLength mega (drop a src))
+  unfolding megaLength withBytes
+  mega-short mega k m (h, p, q) = record { is = rw (length-drop, p, q, lt-leb 1 (length src - a) h); fits = (le-refl a, inside) }
+
+  pub mega-read : (mega b : ℕ) → (1 ≤ length src - a) × (b ≡ getD src a 0) → getD src a 0 ≤ 255 → 1 ≤ mega → mega ≤ 32
+      → Reads src a (Of (b + mega) (a + 1)) (megaLength mega (drop a src))
+  unfolding megaLength withBytes
+  mega-read mega b (h, g) k l m =
       record {
-        is = rw (eq-eqb low 0 e, length-drop, le-leb 1 (length src - a) h, getD-drop, add-zero, drop-drop, g);
+        is = rw (length-drop, le-leb 1 (length src - a) h, getD-drop, add-zero, drop-drop, g);
         fits = (omega arith, omega arith, omega arith, omega arith);
-      }
-
-  pub short-here : (low n base : ℕ) → (low ≡ 0 → ⊥) → low ≤ n → n ≤ 248 → Reads src a (Of n a) (shortLength low n base (drop a src))
-  unfolding shortLength
-  short-here low n base e h k =
-      record {
-        is = rw (ne-eqb low 0 e);
-        fits = (omega arith, omega arith, le-refl a, inside);
       }
 
   pub long-short : (k m : ℕ) → (length src - a < 2) × (k ≡ 2) × (m ≡ length src - a)
@@ -65,75 +153,3 @@ module _ (src : List ℕ) (a : ℕ) (inside : a ≤ length src) where
         is = simp (p, length-drop, le-leb 2 (length src - a) h, getD-drop, add-zero, drop-drop, ne-eqb _ 0 z′);
         fits = (omega arith, omega arith, omega arith, omega arith);
       }
-
--- a fact of every kind number
-pub by-number : (P : ℕ → Type 0) → P 0 → P 1 → P 2 → P 3 → P 4 → P 5 → P 6 → P 7 → P 8 → P 9 → P 10 → P 11
-    → ((c : ℕ) → P (suc (suc (suc (suc (suc (suc (suc (suc (suc (suc (suc (suc c)))))))))))))
-    → (c : ℕ) → P c
-by-number P p0 p1 p2 p3 p4 p5 p6 p7 p8 p9 p10 p11 other zero = p0
-by-number P p0 p1 p2 p3 p4 p5 p6 p7 p8 p9 p10 p11 other (suc zero) = p1
-by-number P p0 p1 p2 p3 p4 p5 p6 p7 p8 p9 p10 p11 other (suc (suc zero)) = p2
-by-number P p0 p1 p2 p3 p4 p5 p6 p7 p8 p9 p10 p11 other (suc (suc (suc zero))) = p3
-by-number P p0 p1 p2 p3 p4 p5 p6 p7 p8 p9 p10 p11 other (suc (suc (suc (suc zero)))) = p4
-by-number P p0 p1 p2 p3 p4 p5 p6 p7 p8 p9 p10 p11 other (suc (suc (suc (suc (suc zero))))) = p5
-by-number P p0 p1 p2 p3 p4 p5 p6 p7 p8 p9 p10 p11 other (suc (suc (suc (suc (suc (suc zero)))))) = p6
-by-number P p0 p1 p2 p3 p4 p5 p6 p7 p8 p9 p10 p11 other (suc (suc (suc (suc (suc (suc (suc zero))))))) = p7
-by-number P p0 p1 p2 p3 p4 p5 p6 p7 p8 p9 p10 p11 other (suc (suc (suc (suc (suc (suc (suc (suc zero)))))))) = p8
-by-number P p0 p1 p2 p3 p4 p5 p6 p7 p8 p9 p10 p11 other (suc (suc (suc (suc (suc (suc (suc (suc (suc zero))))))))) = p9
-by-number P p0 p1 p2 p3 p4 p5 p6 p7 p8 p9 p10 p11 other (suc (suc (suc (suc (suc (suc (suc (suc (suc (suc zero)))))))))) = p10
-by-number P p0 p1 p2 p3 p4 p5 p6 p7 p8 p9 p10 p11 other (suc (suc (suc (suc (suc (suc (suc (suc (suc (suc (suc zero))))))))))) = p11
-by-number P p0 p1 p2 p3 p4 p5 p6 p7 p8 p9 p10 p11 other (suc (suc (suc (suc (suc (suc (suc (suc (suc (suc (suc (suc c)))))))))))) = other c
-
-module _ (h c : ℕ) (rest : List ℕ) where
-  pub length-one : 9 < c → runLength 1 rest ≡ lengthOf h c rest
-  unfolding lengthOf lengthIn kindRow rows row noRow
-  length-one =
-      by-number (λ c. 9 < c → runLength 1 rest ≡ lengthOf h c rest)
-      (λ p. absurd (omega arith)) (λ p. absurd (omega arith)) (λ p. absurd (omega arith)) (λ p. absurd (omega arith))
-      (λ p. absurd (omega arith)) (λ p. absurd (omega arith)) (λ p. absurd (omega arith)) (λ p. absurd (omega arith))
-      (λ p. absurd (omega arith)) (λ p. absurd (omega arith)) (λ p. refl) (λ p. refl)
-      (λ k p. refl) c
-
-  pub length-eight : c ≤ 9 → 7 < c → runLength 8 rest ≡ lengthOf h c rest
-  unfolding lengthOf lengthIn kindRow rows row noRow
-  length-eight =
-      by-number (λ c. c ≤ 9 → 7 < c → runLength 8 rest ≡ lengthOf h c rest)
-      (λ p q. absurd (omega arith)) (λ p q. absurd (omega arith)) (λ p q. absurd (omega arith)) (λ p q. absurd (omega arith))
-      (λ p q. absurd (omega arith)) (λ p q. absurd (omega arith)) (λ p q. absurd (omega arith)) (λ p q. absurd (omega arith))
-      (λ p q. refl) (λ p q. refl) (λ p q. absurd (omega arith)) (λ p q. absurd (omega arith))
-      (λ k p q. absurd (omega arith)) c
-
-  pub length-fgbg : (b : ℕ) → h < 0xF0 → c ≡ 2 → b ≡ h → shortLength (b % 32) (b % 32 * 8) 1 rest ≡ lengthOf h c rest
-  unfolding lengthOf lengthIn kindRow rows row
-  length-fgbg b q r e = rw (r, e, lt-ltb h 0xF0 q)
-
-  pub length-set-fgbg : (b : ℕ) → h < 0xF0 → c ≡ 6 → b ≡ h → shortLength (b % 16) (b % 16 * 8) 1 rest ≡ lengthOf h c rest
-  unfolding lengthOf lengthIn kindRow rows row
-  length-set-fgbg b q r e = rw (r, e, lt-ltb h 0xF0 q)
-
-  pub length-regular : (b : ℕ) → h < 0xF0 → (c ≡ 2 → ⊥) → c < 5 → b ≡ h → shortLength (b % 32) (b % 32) 32 rest ≡ lengthOf h c rest
-  unfolding lengthOf lengthIn kindRow rows row noRow
-  length-regular b =
-      by-number (λ c. h < 0xF0 → (c ≡ 2 → ⊥) → c < 5 → b ≡ h → shortLength (b % 32) (b % 32) 32 rest ≡ lengthOf h c rest)
-      (λ p q r s. rw (s, lt-ltb h 0xF0 p, mul-one)) (λ p q r s. rw (s, lt-ltb h 0xF0 p, mul-one)) (λ p q r s. absurd (omega arith)) (λ p q r s. rw (s, lt-ltb h 0xF0 p, mul-one))
-      (λ p q r s. rw (s, lt-ltb h 0xF0 p, mul-one)) (λ p q r s. absurd (omega arith)) (λ p q r s. absurd (omega arith)) (λ p q r s. absurd (omega arith))
-      (λ p q r s. absurd (omega arith)) (λ p q r s. absurd (omega arith)) (λ p q r s. absurd (omega arith)) (λ p q r s. absurd (omega arith))
-      (λ k p q r s. absurd (omega arith)) c
-
-  pub length-lite : (b : ℕ) → h < 0xF0 → (c ≡ 6 → ⊥) → 5 ≤ c → c ≤ 7 → b ≡ h → shortLength (b % 16) (b % 16) 16 rest ≡ lengthOf h c rest
-  unfolding lengthOf lengthIn kindRow rows row noRow
-  length-lite b =
-      by-number (λ c. h < 0xF0 → (c ≡ 6 → ⊥) → 5 ≤ c → c ≤ 7 → b ≡ h → shortLength (b % 16) (b % 16) 16 rest ≡ lengthOf h c rest)
-      (λ p q r s t. absurd (omega arith)) (λ p q r s t. absurd (omega arith)) (λ p q r s t. absurd (omega arith)) (λ p q r s t. absurd (omega arith))
-      (λ p q r s t. absurd (omega arith)) (λ p q r s t. rw (t, lt-ltb h 0xF0 p, mul-one)) (λ p q r s t. absurd (omega arith)) (λ p q r s t. rw (t, lt-ltb h 0xF0 p, mul-one))
-      (λ p q r s t. absurd (omega arith)) (λ p q r s t. absurd (omega arith)) (λ p q r s t. absurd (omega arith)) (λ p q r s t. absurd (omega arith))
-      (λ k p q r s t. absurd (omega arith)) c
-
-  pub length-long : c ≤ 7 → 0xF0 ≤ h → megaMegaLength rest ≡ lengthOf h c rest
-  unfolding lengthOf lengthIn kindRow rows row noRow
-  length-long =
-      by-number (λ c. c ≤ 7 → 0xF0 ≤ h → megaMegaLength rest ≡ lengthOf h c rest)
-      (λ p q. rw (le-ltb h 0xF0 q)) (λ p q. rw (le-ltb h 0xF0 q)) (λ p q. rw (le-ltb h 0xF0 q)) (λ p q. rw (le-ltb h 0xF0 q))
-      (λ p q. rw (le-ltb h 0xF0 q)) (λ p q. rw (le-ltb h 0xF0 q)) (λ p q. rw (le-ltb h 0xF0 q)) (λ p q. rw (le-ltb h 0xF0 q))
-      (λ p q. absurd (omega arith)) (λ p q. absurd (omega arith)) (λ p q. absurd (omega arith)) (λ p q. absurd (omega arith))
-      (λ k p q. absurd (omega arith)) c

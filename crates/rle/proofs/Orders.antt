@@ -1,37 +1,36 @@
--- Laws of orders: what the code's painting and refusing make of the definition's state. Assumes nothing.
+-- Laws of orders: an order that is planned, and whose pixels are painted as planned, did what the definition does. Assumes nothing.
 use mathlib.Core.Path.{_≡_, refl, ap, sym, _∙_, subst}
-use mathlib.Core.List.{List}
+use mathlib.Core.List.{List, [], _∷_}
 use mathlib.Core.Bool.{Bool, true, false}
-use Prim.Native.Nat.{ℕ, _+_, _*_, _-_, _≤_, _<_}
-use native.Mathlib.Nat.{le-refl, mul-le-mul, mul-le-mul-right}
+use Prim.Native.Nat.{ℕ, _+_, _*_, _-_, _/_, _%_, _≤_, _<_}
+use native.Mathlib.Nat.{add-zero, mul-le-mul-right}
 use native.Mathlib.Omega.{arith}
-use lib.ListN.{length, drop, length-drop, List·getD-eq-default}
+use lib.Dec.{leb}
+use lib.ListN.{length, drop, length-drop}
 use lib.Seq.{drop-drop}
-use borrow.Author.Tests.{le-leb, lt-leb}
-use Rattle.rle.specs.declared.order.State.{State as CodeState}
-use Rattle.rle.specs.declared.order.Frame.{Frame as CodeFrame}
-use Rattle.rle.specs.declared.order.Stepped.{Stepped}
-use Rattle.rle.specs.declared.order.Answer.the-variants.{Done}
+use Rattle.rle.specs.declared.state.State.{State as CodeState}
+use Rattle.rle.specs.declared.state.Frame.{Frame as CodeFrame}
+use Rattle.rle.specs.declared.state.Stepped.{Stepped}
 use Rattle.rle.specs.declared.paint.Ink.{Ink as CodeInk}
-use Rattle.picture.specs.declared.outcome.RleError.the-variants.{BadOrderCode, NotEnoughBytes}
-use Rattle.picture.specs.Pixels.{Pixel, firstPixel, pixelAt, OfDepth}
-use Rattle.rle.specs.Orders.{Kind, NoOrder, Row, kindOf, kindRow, rows, noRow, row}
-use Rattle.picture.specs.Sizes.{Frame}
-use Rattle.rle.specs.Decode.{Ink, solid, fgInk, bgInk, insertInk, maskInk, ditherInk, State, Step, room, tooLarge, tooShort, needBytes, paintOrder, completed, withPainted, withLeft, withForeground, fgRun, setForeground, colorRun, ditheredRun, colorImage, oneMask, orderOf}
-use Rattle.rle.specs.Contracts.{HasPlace, Paintable, Painted, Framed, Sound, Did, frameOf, stateOf, inkOf, reach, rowAbove, fgMode, bgMode, fgOf, bgOf, withFg, atPos, advancedBy, completedOf, refusedOf, tooLargeOf}
+use Rattle.rle.specs.declared.plan.Plan.{Plan as CodePlan}
+use Rattle.rle.specs.declared.plan.Answer.{Answer}
+use Rattle.rle.specs.declared.plan.Answer.the-variants.{Done, Refused}
+use Rattle.picture.specs.Pixels.{Pixel, pick, OfDepth}
+use Rattle.picture.specs.Sizes.{refusal, Frame}
+use Rattle.picture.proofs.Tests.{by-test}
+use Rattle.rle.specs.Orders.{Kind, BgRun, FgRun, FgBgImage, ColorRun, ColorImage, SetFgRun, SetFgBgImage, DitheredRun, SpecialFgBg1, SpecialFgBg2, White, Black, NoOrder}
+use Rattle.rle.specs.Decode.{solid, fgInk, bgInk, insertInk, maskInk, State, state, room, orderOf}
+use Rattle.rle.specs.Plan.{refuses, Counts, counts, behind, withOperands, runCounts, countsOf, leavesInsert, newForeground, foregroundBy, insertAfter, ordersAfter, imageInk, kindInk, endWith}
+use Rattle.rle.specs.Contracts.{countsIn, HasPlace, Paintable, Painted, Framed, Sound, Did, frameOf, stateOf, endingIn, outcomeOf, inkOf, reach, rowAbove, fgMode, bgMode, fgOf, bgOf, withFg, Fits, finishedOf}
 use Rattle.rle.proofs.Pixels.{length-pixelsOf}
 use Rattle.rle.proofs.Painting.{of-depth, painted-as}
-
--- ---- an order as another
-
-pub did-as : {f : Frame} {src before after : List ℕ} {s : CodeState} {r : Stepped} {a b : State → Step}
-    → a (stateOf f src before s) ≡ b (stateOf f src before s) → Did f src before after s r a → Did f src before after s r b
-did-as e d = record { is = d .is ∙ e; rest = d .rest; grows = d .grows; reads = d .reads; sound = d .sound }
+use Rattle.rle.proofs.Masks.{acted, image-masks}
+use Rattle.rle.proofs.Planned.{inkBy, kind-acted, Within, kind-within, orders-few, run-most, operands-there, image-read}
 
 -- ---- painting
 
 -- n pixels have a place, and can be painted
-pub has-place : {f : Frame} {size : ℕ} {s : CodeState} (dst : List ℕ) (n : ℕ) → Framed (length dst) f → Sound f size s → n ≤ f .total - s .pixels
+pub has-place : {f : Frame} {s : CodeState} (dst : List ℕ) (n : ℕ) → Framed (length dst) f → Sound f s → n ≤ f .total - s .pixels
     → HasPlace (f .bytes) (s .pixels) n dst
 has-place {f} {s = s} dst n frame sound h =
     record {
@@ -41,7 +40,7 @@ has-place {f} {s = s} dst n frame sound h =
           omega (arith, frame .fits, sound .within, mul-le-mul-right {m = s .pixels + n} {n = f .total} (f .bytes) (omega (arith, sound .within)));
     }
 
-pub paintable : {f : Frame} {size : ℕ} {s : CodeState} (dst : List ℕ) (n : ℕ) (ink : CodeInk) → Framed (length dst) f → Sound f size s
+pub paintable : {f : Frame} {s : CodeState} (dst : List ℕ) (n : ℕ) (ink : CodeInk) → Framed (length dst) f → Sound f s
     → n ≤ f .total - s .pixels → reach (ink .mode) (f .width) ≤ s .pixels → OfDepth (f .bytes) (ink .pixel)
     → Paintable (f .bytes) (f .width) (s .pixels) n dst ink
 paintable dst n ink frame sound h r e =
@@ -49,82 +48,47 @@ paintable dst n ink frame sound h r e =
     record { low = p .low; high = p .high; wide = frame .wide; fits = p .fits; row = r; pixel = e }
 
 -- the row above is there where the state's two inks look at it
-pub fg-row : {f : Frame} {size : ℕ} {s : CodeState} → Sound f size s → reach (fgMode (s .«first_row»)) (f .width) ≤ s .pixels
+pub fg-row : {f : Frame} {s : CodeState} → Sound f s → reach (fgMode (s .«first_row»)) (f .width) ≤ s .pixels
 fg-row {f} {s = s} sound = go (s .«first_row») (sound .row)
   where
     go : (t : Bool) → rowAbove t (f .width) ≤ s .pixels → reach (fgMode t) (f .width) ≤ s .pixels
     go true h = h
     go false h = h
 
-pub bg-row : {f : Frame} {size : ℕ} {s : CodeState} → Sound f size s → reach (bgMode (s .«first_row»)) (f .width) ≤ s .pixels
+pub bg-row : {f : Frame} {s : CodeState} → Sound f s → reach (bgMode (s .«first_row»)) (f .width) ≤ s .pixels
 bg-row {f} {s = s} sound = go (s .«first_row») (sound .row)
   where
     go : (t : Bool) → rowAbove t (f .width) ≤ s .pixels → reach (bgMode t) (f .width) ≤ s .pixels
     go true h = h
     go false h = h
 
--- a pixel of the stream has its unused bytes zero
-pub read-of-depth : {given : ℕ} {f : Frame} {p : Pixel} → Framed given f → (xs : List ℕ) → p ≡ firstPixel (f .bytes) xs → OfDepth (f .bytes) p
-read-of-depth {f = f} frame xs e = rw e (of-depth (f .bytes) xs (frame .low) (frame .high))
+-- the foreground that an order leaves has its unused bytes zero
+pub new-of-depth : {given : ℕ} {f : Frame} {p : Pixel} → Framed given f → OfDepth (f .bytes) p → (xs : List ℕ)
+    → OfDepth (f .bytes) (newForeground (f .bytes) p xs)
+unfolding newForeground
+new-of-depth {f = f} {p} frame of xs =
+    by-test (λ (x : Pixel). OfDepth (f .bytes) x) (leb (f .bytes) (length xs)) (λ e. of-depth (f .bytes) xs (frame .low) (frame .high)) (λ e. of)
 
--- the state at another place, with another foreground
-pub sound-at : {f : Frame} {size : ℕ} {s : CodeState} (pos : ℕ) (p : Pixel) → Sound f size s → pos ≤ size → OfDepth (f .bytes) p
-    → Sound f size (withFg s pos p)
-sound-at pos p sound h e =
-    record {
-      place = h;
-      within = sound .within;
-      row = sound .row;
-      foreground = e;
-      counted = sound .counted;
-    }
+pub kind-of-depth : {given : ℕ} {f : Frame} {p : Pixel} → Framed given f → OfDepth (f .bytes) p → (xs : List ℕ) (k : Kind)
+    → OfDepth (f .bytes) (foregroundBy (f .bytes) k p xs)
+unfolding foregroundBy
+kind-of-depth frame of xs BgRun = of
+kind-of-depth frame of xs FgRun = of
+kind-of-depth frame of xs FgBgImage = of
+kind-of-depth frame of xs ColorRun = of
+kind-of-depth frame of xs ColorImage = of
+kind-of-depth frame of xs SetFgRun = new-of-depth frame of xs
+kind-of-depth frame of xs SetFgBgImage = new-of-depth frame of xs
+kind-of-depth frame of xs DitheredRun = of
+kind-of-depth frame of xs SpecialFgBg1 = of
+kind-of-depth frame of xs SpecialFgBg2 = of
+kind-of-depth frame of xs White = of
+kind-of-depth frame of xs Black = of
+kind-of-depth frame of xs NoOrder = of
 
--- the state with n more pixels
-pub sound-more : {f : Frame} {size : ℕ} {s : CodeState} (n orders : ℕ) (insert : Bool) → Sound f size s → n ≤ f .total - s .pixels → orders ≤ s .pixels + n
-    → Sound f size (record { pos = s .pos; pixels = s .pixels + n; foreground = s .foreground; insert = insert; «first_row» = s .«first_row»; orders = orders })
-sound-more n orders insert sound h counted =
-    record {
-      place = sound .place;
-      within = omega (arith, sound .within);
-      row = omega (arith, sound .row);
-      foreground = sound .foreground;
-      counted = counted;
-    }
+-- ---- the code's inks are the definition's
 
-module _ (f : Frame) (src before : List ℕ) (s : CodeState) (frame : Framed (length before) f) (sound : Sound f (length src) s) where
-  room-is : room f (stateOf f src before s) ≡ f .total - s .pixels
-  unfolding room
-  room-is = rw length-pixelsOf
-
-  -- the order's pixels are painted
-  pub did-paint : (after : List ℕ) (i : Bool) (ink : ℕ → Ink) (n : ℕ) → 1 ≤ n → n ≤ f .total - s .pixels
-      → Painted (f .bytes) (f .width) ink (s .pixels) n before after
-      → Did f src before after s (completedOf s n i) (λ S. paintOrder f i ink n S)
-  unfolding paintOrder completed withPainted
-  did-paint after i ink n one h p =
-      record {
-        is = rw (room-is, le-leb n (f .total - s .pixels) h, p .pixels);
-        rest = p .rest;
-        grows = omega arith;
-        reads = le-refl (s .pos);
-        sound = sound-more n (s .orders + 1) i sound h (omega (arith, sound .counted));
-      }
-
-  -- a mask's pixels are painted
-  pub did-mask : (after : List ℕ) (m n : ℕ) → n ≤ f .total - s .pixels
-      → Painted (f .bytes) (f .width) (maskInk (fgInk (s .«first_row») (s .foreground)) (bgInk (s .«first_row») (f .black)) m) (s .pixels) n before after
-      → Did f src before after s (record { answer = Done; state = advancedBy s n }) (oneMask f m n)
-  unfolding oneMask withPainted
-  did-mask after m n h p =
-      record {
-        is = rw (room-is, le-leb n (f .total - s .pixels) h, p .pixels);
-        rest = p .rest;
-        grows = omega arith;
-        reads = le-refl (s .pos);
-        sound = sound-more n (s .orders) (s .insert) sound h (omega (arith, sound .counted));
-      }
-
-pub fg-ink : (s : CodeState) → inkOf (fgOf s) ≡ fgInk (s .«first_row») (s .foreground)
+fg-ink : (s : CodeState) → inkOf (fgOf s) ≡ fgInk (s .«first_row») (s .foreground)
 unfolding fgInk
 fg-ink s = go (s .«first_row»)
   where
@@ -132,7 +96,7 @@ fg-ink s = go (s .«first_row»)
     go true = refl
     go false = refl
 
-pub bg-ink : (f : CodeFrame) (s : CodeState) → inkOf (bgOf f s) ≡ bgInk (s .«first_row») (f .depth .black)
+bg-ink : (f : CodeFrame) (s : CodeState) → inkOf (bgOf f s) ≡ bgInk (s .«first_row») (f .depth .black)
 unfolding bgInk
 bg-ink f s = go (s .«first_row»)
   where
@@ -140,143 +104,204 @@ bg-ink f s = go (s .«first_row»)
     go true = refl
     go false = refl
 
--- ---- refusals
+-- those of a state that differs from s in the foreground alone
+pub fg-is : {i : CodeInk} {t : CodeState} {p : Pixel} (s : CodeState) → t ≡ withFg s p → i ≡ fgOf t → inkOf i ≡ fgInk (s .«first_row») p
+fg-is {p = p} s e is = ap (λ (x : CodeInk). inkOf x) (is ∙ ap (λ (x : CodeState). fgOf x) e) ∙ fg-ink (withFg s p)
 
-module _ (f : CodeFrame) (src before : List ℕ) (s : CodeState) (frame : Framed (length before) (frameOf f)) (sound : Sound (frameOf f) (length src) s)
-    (n : ℕ) (over : f .total - s .pixels < n) where
-  large : {a : State → Step} → tooLarge (frameOf f) n (stateOf (frameOf f) src before s) ≡ a (stateOf (frameOf f) src before s)
-      → Did (frameOf f) src before before s (tooLargeOf f s n) a
-  unfolding tooLarge
-  large e =
-      record {
-        is = rw (← room-is (frameOf f) src before s frame sound) e;
-        rest = refl;
-        grows = le-refl (s .pixels);
-        reads = le-refl (s .pos);
-        sound = sound;
-      }
-
-  pub large-order : (i : Bool) (ink : ℕ → Ink) → Did (frameOf f) src before before s (tooLargeOf f s n) (paintOrder (frameOf f) i ink n)
-  unfolding paintOrder
-  large-order i ink = large (rw (room-is (frameOf f) src before s frame sound, lt-leb n (f .total - s .pixels) over))
-
-  pub large-mask : (m : ℕ) → Did (frameOf f) src before before s (tooLargeOf f s n) (oneMask (frameOf f) m n)
-  unfolding oneMask
-  large-mask m = large (rw (room-is (frameOf f) src before s frame sound, lt-leb n (f .total - s .pixels) over))
-
--- ---- bytes of the stream
-
-module _ (f : Frame) (src before : List ℕ) (s : CodeState) (sound : Sound f (length src) s) where
-  -- k bytes are missing
-  pub missing : {a : State → Step} (k : ℕ) (go : Step) → length src - s .pos < k
-      → a (stateOf f src before s) ≡ needBytes k (stateOf f src before s) go
-      → Did f src before before s (refusedOf s (NotEnoughBytes k (length src - s .pos))) a
-  unfolding needBytes tooShort
-  missing k go h e =
-      record {
-        is = rw (e, length-drop, lt-leb k (length src - s .pos) h);
-        rest = refl;
-        grows = le-refl (s .pixels);
-        reads = le-refl (s .pos);
-        sound = sound;
-      }
-
-  -- k bytes are there
-  found : (k : ℕ) (go : Step) → k ≤ length src - s .pos → go ≡ needBytes k (stateOf f src before s) go
-  unfolding needBytes
-  found k go h = rw (length-drop, le-leb k (length src - s .pos) h)
-
-  -- the order goes on from k bytes later, with the foreground p
-  module _ {after : List ℕ} {r : Stepped} {t : CodeState} (k : ℕ) {p : Pixel} (there : k ≤ length src - s .pos) (moved : t ≡ withFg s (s .pos + k) p) where
-    later : (go order : State → Step) → go (stateOf f src before (withFg s (s .pos + k) p)) ≡ order (stateOf f src before s)
-        → Did f src before after t r go → Did f src before after s r order
-    later go order e d =
-        let h : Did f src before after (withFg s (s .pos + k) p) r go = subst (λ (u : CodeState). Did f src before after u r go) moved d in
-        record { is = h .is ∙ e; rest = h .rest; grows = h .grows; reads = omega (arith, h .reads); sound = h .sound }
-
-  module _ {after : List ℕ} {r : Stepped} {t : CodeState} where
-    -- a set-foreground order, after its foreground
-    pub did-set : (go : State → Step) {p : Pixel} → f .bytes ≤ length src - s .pos → t ≡ withFg s (s .pos + f .bytes) p
-        → p ≡ firstPixel (f .bytes) (drop (s .pos) src) → Did f src before after t r go
-        → Did f src before after s r (λ S. needBytes (f .bytes) S (go (setForeground f S)))
-    unfolding setForeground withLeft withForeground
-    did-set go h moved e =
-        later (f .bytes) h moved go _ (rw (e, ← drop-drop (f .bytes) (s .pos) src) (found (f .bytes) _ h))
-
-    pub did-color-run : (n : ℕ) {ink : Ink} {p : Pixel} → f .bytes ≤ length src - s .pos → t ≡ atPos s (s .pos + f .bytes)
-        → p ≡ firstPixel (f .bytes) (drop (s .pos) src) → ink ≡ solid p
-        → Did f src before after t r (paintOrder f false (λ _. ink) n) → Did f src before after s r (colorRun f n)
-    unfolding colorRun withLeft
-    did-color-run n h moved e i =
-        later (f .bytes) h moved (paintOrder f false (λ _. _) n) (colorRun f n)
-        (rw (i, e, ← drop-drop (f .bytes) (s .pos) src) (found (f .bytes) _ h))
-
-    pub did-dithered : (n : ℕ) {a b : Pixel} → 2 * f .bytes ≤ length src - s .pos → t ≡ atPos s (s .pos + 2 * f .bytes)
-        → a ≡ firstPixel (f .bytes) (drop (s .pos) src) → b ≡ firstPixel (f .bytes) (drop (s .pos + f .bytes) src)
-        → Did f src before after t r (paintOrder f false (ditherInk a b) (n * 2)) → Did f src before after s r (ditheredRun f n)
-    unfolding ditheredRun withLeft
-    did-dithered n {a} {b} h moved p q =
-        later (2 * f .bytes) h moved (paintOrder f false (ditherInk a b) (n * 2)) (ditheredRun f n)
-        (rw (p, q, ← drop-drop (f .bytes) (s .pos) src, ← drop-drop (2 * f .bytes) (s .pos) src) (found (2 * f .bytes) _ h))
-
-    pub did-image : (n : ℕ) → n * f .bytes ≤ length src - s .pos → t ≡ atPos s (s .pos + n * f .bytes)
-        → Did f src before after t r (paintOrder f false (λ j. solid (pixelAt (f .bytes) (drop (s .pos) src) j)) n)
-        → Did f src before after s r (colorImage f n)
-    unfolding colorImage withLeft
-    did-image n h moved =
-        later (n * f .bytes) h moved (paintOrder f false (λ j. solid (pixelAt (f .bytes) (drop (s .pos) src) j)) n) (colorImage f n)
-        (rw (← drop-drop (n * f .bytes) (s .pos) src) (found (n * f .bytes) _ h))
-
--- ---- a header that is no order
-
-none-kind : (c : ℕ) → 12 ≤ c → NoOrder ≡ kindOf c
-unfolding kindOf kindRow rows noRow row
-none-kind c h = sym (ap (λ (r : Row). r .kind) (List·getD-eq-default rows noRow h))
-
-pub did-none : (f : Frame) (src before : List ℕ) (s : CodeState) (c n : ℕ) → Sound f (length src) s → 12 ≤ c
-    → Did f src before before s (refusedOf s BadOrderCode) (orderOf f (kindOf c) n)
-unfolding orderOf
-did-none f src before s c n sound h =
-    record {
-      is = ap (λ (k : Kind). orderOf f k n (stateOf f src before s)) (none-kind c h);
-      rest = refl;
-      grows = le-refl (s .pixels);
-      reads = le-refl (s .pos);
-      sound = sound;
-    }
-
--- an order of kind number c
-pub did-kind : {f : Frame} {src before after : List ℕ} {s : CodeState} {r : Stepped} {a : State → Step} {kind c : ℕ} (n : ℕ) → kind ≡ c
-    → a (stateOf f src before s) ≡ orderOf f (kindOf c) n (stateOf f src before s)
-    → Did f src before after s r a → Did f src before after s r (orderOf f (kindOf kind) n)
-did-kind {f} {src} {before} {s = s} n k e d =
-    did-as (e ∙ ap (λ (x : ℕ). orderOf f (kindOf x) n (stateOf f src before s)) (sym k)) d
-
--- one more number that c is not
-pub past : (k c : ℕ) → k ≤ c → (c ≡ k → ⊥) → k + 1 ≤ c
-past k c h n = omega arith
-
-pub room-product : {D total : ℕ} (pixels : ℕ) → D ≤ 3 → total ≤ 67108864 → (total - pixels) * D ≤ 201326592
-room-product {D} {total} pixels a b = let h : total - pixels ≤ 67108864 = omega arith in mul-le-mul h a
-
--- ---- the code's inks are the definition's
-
-fg-is : {i : CodeInk} (s : CodeState) → i ≡ fgOf s → inkOf i ≡ fgInk (s .«first_row») (s .foreground)
-fg-is s e = ap (λ (x : CodeInk). inkOf x) e ∙ fg-ink s
-
-bg-is : {j : CodeInk} (f : CodeFrame) (s : CodeState) → j ≡ bgOf f s → inkOf j ≡ bgInk (s .«first_row») (f .depth .black)
-bg-is f s e = ap (λ (x : CodeInk). inkOf x) e ∙ bg-ink f s
+pub bg-is : {j : CodeInk} {t : CodeState} {p : Pixel} (f : CodeFrame) (s : CodeState) → t ≡ withFg s p → j ≡ bgOf f t
+    → inkOf j ≡ bgInk (s .«first_row») (f .depth .black)
+bg-is {p = p} f s e is = ap (λ (x : CodeInk). inkOf x) (is ∙ ap (λ (x : CodeState). bgOf f x) e) ∙ bg-ink f (withFg s p)
 
 module _ {D w k n : ℕ} {xs ys : List ℕ} {i j : CodeInk} (f : CodeFrame) (s : CodeState) (fg : i ≡ fgOf s) (bg : j ≡ bgOf f s) where
   pub insert-inks : (insert : Bool) → Painted D w (insertInk insert (inkOf i) (inkOf j)) k n xs ys
       → Painted D w (insertInk insert (fgInk (s .«first_row») (s .foreground)) (bgInk (s .«first_row») (f .depth .black))) k n xs ys
-  insert-inks insert p = painted-as (λ m h. insertInk insert (fg-is s fg h) (bg-is f s bg h) m) p
+  insert-inks insert p = painted-as (λ m b h. insertInk insert (fg-is s refl fg h) (bg-is {p = s .foreground} f s refl bg h) m) p
 
-  pub mask-inks : (m : ℕ) → Painted D w (maskInk (inkOf i) (inkOf j) m) k n xs ys
-      → Painted D w (maskInk (fgInk (s .«first_row») (s .foreground)) (bgInk (s .«first_row») (f .depth .black)) m) k n xs ys
-  mask-inks m p = painted-as (λ a h. maskInk (fg-is s fg h) (bg-is f s bg h) m a) p
+  pub mask-inks : (masks : List ℕ) → Painted D w (imageInk (inkOf i) (inkOf j) masks) k n xs ys
+      → Painted D w (imageInk (fgInk (s .«first_row») (s .foreground)) (bgInk (s .«first_row») (f .depth .black)) masks) k n xs ys
+  mask-inks masks p = painted-as (λ a b h. imageInk (fg-is s refl fg h) (bg-is {p = s .foreground} f s refl bg h) masks a) p
 
-pub fg-run-is : (f : Frame) (n : ℕ) (i : CodeInk) (src before : List ℕ) (s : CodeState) → i ≡ fgOf s
-    → paintOrder f false (λ _. inkOf i) n (stateOf f src before s) ≡ fgRun f n (stateOf f src before s)
-unfolding fgRun
-fg-run-is f n i src before s e = ap (λ (x : Ink). paintOrder f false (λ _. x) n (stateOf f src before s)) (fg-is s e)
+-- ---- an order planned and painted
+
+pub outcome-ends : (a : Answer) (t : State) → outcomeOf a t ≡ endWith (endingIn a) t
+unfolding endWith
+outcome-ends Done t = refl
+outcome-ends (Refused e) t = refl
+
+-- an order of kind k and run length n with the plan p, in the state s: a bytes are left
+module _ {given : ℕ} (f : Frame) (s : CodeState) (frame : Framed given f) (sound : Sound f s) (k : Kind) (n a : ℕ) (one : 1 ≤ n) (p : CodePlan)
+    (plans : countsIn p ≡ countsOf (f .bytes) k n a (f .total - s .pixels)) where
+  pub within : Within a (f .total - s .pixels) (countsIn p)
+  within = rw plans (kind-within (f .bytes) k n a (f .total - s .pixels) one)
+
+  pub fits : s .pos + a ≤ 18446744073709551615 → Fits s p
+  fits h =
+      record { read = omega (arith, within .read); pixels = omega (arith, within .pixels, frame .few, sound .within); counted = sound .counted }
+
+-- the same with another foreground
+pub fits-with : {s t : CodeState} {x : Pixel} {p : CodePlan} → t ≡ withFg s x → Fits s p → Fits t p
+fits-with e h = rw e (record { read = h .read; pixels = h .pixels; counted = h .counted })
+
+-- an order that paints has its operands, and a color image those of all its pixels
+module _ (a : ℕ) (p : CodePlan) where
+  pub operands-read : (d : ℕ) (c : Counts) → countsIn p ≡ withOperands d a c → 0 < p .pixels → d ≤ a
+  operands-read d c e h = operands-there d a c (subst (λ (x : Counts). 0 < x .pixels) e h)
+
+  pub image-operands : (D n R : ℕ) → countsIn p ≡ withOperands (n * D) a (runCounts D n R) → p .pixels * D ≤ a
+  image-operands D n R e = subst (λ (x : Counts). x .pixels * D ≤ a) (sym e) (image-read D n a R)
+
+-- t and i: the state but for what is read and painted, and the insert, that an order of kind k leaves, with the bytes xs from its
+-- operands on
+pub record Leaves (D : ℕ) (k : Kind) (s : CodeState) (xs : List ℕ) (t : CodeState) (i : Bool) : Type 0 where
+  pub state : t ≡ withFg s (foregroundBy D k (s .foreground) xs)
+  pub insert : i ≡ leavesInsert k
+
+module _ (f : Frame) (src before after : List ℕ) (s : CodeState) (frame : Framed (length before) f) (sound : Sound f s) (place : s .pos ≤ length src)
+    (k : Kind) (n : ℕ) (one : 1 ≤ n) (p : CodePlan) (plans : countsIn p ≡ countsOf (f .bytes) k n (length src - s .pos) (f .total - s .pixels)) where
+  abbrev S : State
+  S = stateOf f src before s
+
+  abbrev foreground : Pixel
+  foreground = foregroundBy (f .bytes) k (s .foreground) (drop (s .pos) src)
+
+  acts : orderOf f k n S ≡ acted f (leavesInsert k) (inkBy f k S) foreground (countsIn p) S
+  unfolding room
+  acts =
+      kind-acted f n S k
+      ∙ (λ i. acted f (leavesInsert k) (inkBy f k S) foreground
+      (countsOf (f .bytes) k n (length-drop (s .pos) src i) (f .total - length-pixelsOf (f .bytes) (s .pixels) before i)) S)
+      ∙ ap (λ (c : Counts). acted f (leavesInsert k) (inkBy f k S) foreground c S) (sym plans)
+
+  did-planned : Painted (f .bytes) (f .width) (inkBy f k S) (s .pixels) (p .pixels) before after
+      → Did f src before after s (finishedOf (withFg s foreground) p (leavesInsert k)) (orderOf f k n)
+  unfolding acted
+  did-planned painted =
+      let w = within f s frame sound k n (length src - s .pos) one p plans in
+      let e = endingIn (p .answer) in
+      let l = sym (drop-drop (p .read) (s .pos) src) in
+      let ps = painted .pixels in
+      let after : List ℕ → List Pixel → State =
+      λ xs qs. state xs qs foreground (insertAfter e (leavesInsert k) (s .insert)) (s .«first_row») (ordersAfter e (s .orders)) in
+      record {
+        is = (λ j. outcomeOf (p .answer) (after (l j) (ps j))) ∙ outcome-ends (p .answer) (after _ _) ∙ sym acts;
+        rest = painted .rest;
+        grows = omega arith;
+        reads = omega arith;
+        place = omega (arith, w .read);
+        mark = refl;
+        sound =
+            record {
+              within = omega (arith, sound .within, w .pixels);
+              row = omega (arith, sound .row);
+              foreground = kind-of-depth frame (sound .foreground) (drop (s .pos) src) k;
+              counted = orders-few e (sound .counted) (w .some);
+            };
+      }
+
+  pub did-finished : {t : CodeState} {i : Bool} {r : Stepped} → Leaves (f .bytes) k s (drop (s .pos) src) t i → r ≡ finishedOf t p i
+      → Painted (f .bytes) (f .width) (inkBy f k S) (s .pixels) (p .pixels) before after → Did f src before after s r (orderOf f k n)
+  did-finished {r = r} leaves is painted =
+      let e : r ≡ finishedOf (withFg s foreground) p (leavesInsert k) = is ∙ (λ j. finishedOf (leaves .state j) p (leaves .insert j)) in
+      rw e (did-planned painted)
+
+-- ---- the functions that serve several kinds, by their numbers
+
+pub did-kind : {f : Frame} {src before after : List ℕ} {s : CodeState} {r : Stepped} (n : ℕ) {k l : Kind} → k ≡ l
+    → Did f src before after s r (orderOf f k n) → Did f src before after s r (orderOf f l n)
+did-kind {f} {src} {before} {after} {s} {r} n e d = subst (λ (x : Kind). Did f src before after s r (orderOf f x n)) e d
+
+-- a special fg/bg image has one of two masks
+pub special-counts : (D n a R : ℕ) (t : Bool) → runCounts D n R ≡ countsOf D (pick t SpecialFgBg1 SpecialFgBg2) n a R
+unfolding countsOf
+special-counts D n a R true = refl
+special-counts D n a R false = refl
+
+pub special-leaves : (D : ℕ) (s : CodeState) (xs : List ℕ) (t : Bool) → Leaves D (pick t SpecialFgBg1 SpecialFgBg2) s xs s false
+unfolding foregroundBy leavesInsert
+special-leaves D s xs true = record { state = refl; insert = refl }
+special-leaves D s xs false = record { state = refl; insert = refl }
+
+pub special-few : (D R : ℕ) (p : CodePlan) → countsIn p ≡ runCounts D 8 R → p .pixels ≤ 8
+special-few D R p e = subst (λ (c : Counts). c .pixels ≤ 8) (sym e) (run-most D 8 R)
+
+pub special-ink : (f : Frame) (s : State) (t : Bool) (j : ℕ) → j < 8
+    → imageInk (fgInk (s .firstRow) (s .foreground)) (bgInk (s .firstRow) (f .black)) (pick t 0x03 0x05 ∷ []) j ≡ inkBy f (pick t SpecialFgBg1 SpecialFgBg2) s j
+unfolding imageInk kindInk foregroundBy
+special-ink f s t j few =
+    let q : j / 8 ≡ 0 = omega arith in
+    let r : j % 8 ≡ j = omega arith in
+    rw (q, r) (go t)
+  where
+    go : (t : Bool) → maskInk (fgInk (s .firstRow) (s .foreground)) (bgInk (s .firstRow) (f .black)) (pick t 0x03 0x05) j ≡ inkBy f (pick t SpecialFgBg1 SpecialFgBg2) s j
+    go true = refl
+    go false = refl
+
+-- white, black, or no order
+pub pixel-leaves : (D : ℕ) (s : CodeState) (xs : List ℕ) (t u : Bool) → Leaves D (pick t NoOrder (pick u White Black)) s xs s false
+unfolding foregroundBy leavesInsert
+pixel-leaves D s xs true u = record { state = refl; insert = refl }
+pixel-leaves D s xs false true = record { state = refl; insert = refl }
+pixel-leaves D s xs false false = record { state = refl; insert = refl }
+
+-- at most one pixel, white or black
+module _ (f : Frame) (R : ℕ) (t : Bool) (p : CodePlan) (plans : countsIn p ≡ pick t (counts 0 0 (refuses (refusal 5 0 0))) (runCounts (f .bytes) 1 R)) where
+  pub pixel-few : p .pixels ≤ 1
+  pixel-few =
+      subst (λ (c : Counts). c .pixels ≤ 1) (sym plans) (by-test (λ (c : Counts). c .pixels ≤ 1) t (λ _. omega arith) (λ _. run-most (f .bytes) 1 R))
+
+  pub pixel-ink : (s : State) (u : Bool) (j : ℕ) → j < p .pixels → solid (pick u (f .white) (f .black)) ≡ inkBy f (pick t NoOrder (pick u White Black)) s j
+  unfolding kindInk
+  pixel-ink s u j h = go t u (subst (λ (c : Counts). j < c .pixels) plans h)
+    where
+      go : (t u : Bool) → j < pick t (counts 0 0 (refuses (refusal 5 0 0))) (runCounts (f .bytes) 1 R) .pixels
+          → solid (pick u (f .white) (f .black)) ≡ inkBy f (pick t NoOrder (pick u White Black)) s j
+      go true u h = absurd (omega arith)
+      go false true h = refl
+      go false false h = refl
+
+-- an fg/bg image, with a foreground of its own or without
+pub image-leaves : (t : Bool) → false ≡ leavesInsert (pick t SetFgBgImage FgBgImage)
+unfolding leavesInsert
+image-leaves true = refl
+image-leaves false = refl
+
+-- its ink, in the state s, by the masks behind the foreground
+image-ink : (f : Frame) (s : State) (pos : ℕ) (src : List ℕ) → s .left ≡ drop pos src → (t : Bool) (j : ℕ)
+    → imageInk (fgInk (s .firstRow) (foregroundBy (f .bytes) (pick t SetFgBgImage FgBgImage) (s .foreground) (s .left))) (bgInk (s .firstRow) (f .black))
+    (drop (pos + pick t (f .bytes) 0) src) j
+    ≡ inkBy f (pick t SetFgBgImage FgBgImage) s j
+unfolding kindInk foregroundBy
+image-ink f s pos src e true j = rw (e, drop-drop)
+image-ink f s pos src e false j = rw (e, add-zero)
+
+-- those masks are enough for the pixels
+image-enough : (D n a R : ℕ) (t : Bool) → countsOf D (pick t SetFgBgImage FgBgImage) n a R .pixels ≤ (a - pick t D 0) * 8
+unfolding countsOf withOperands behind
+image-enough D n a R true =
+    by-test (λ (c : Counts). c .pixels ≤ (a - D) * 8) (leb D a) (λ e. image-masks D n (a - D) R) (λ e. omega arith)
+image-enough D n a R false = omega (arith, image-masks D n a R)
+
+-- u, i, j, size: the state, the inks and the foreground's bytes that the code has
+module _ (f : CodeFrame) (src dst : List ℕ) (s : CodeState) (t : Bool) {u : CodeState} {i j : CodeInk} {size : ℕ}
+    (state : u ≡ withFg s (foregroundBy (f .depth .bytes) (pick t SetFgBgImage FgBgImage) (s .foreground) (drop (s .pos) src))) (fg : i ≡ fgOf u) (bg : j ≡ bgOf f u)
+    (sized : size ≡ pick t (f .depth .bytes) 0) where
+  pub image-inks : (k n : ℕ) {after : List ℕ} → Painted (f .depth .bytes) (f .width) (imageInk (inkOf i) (inkOf j) (drop (s .pos + size) src)) k n dst after
+      → Painted (f .depth .bytes) (f .width) (inkBy (frameOf f) (pick t SetFgBgImage FgBgImage) (stateOf (frameOf f) src dst s)) k n dst after
+  image-inks k n p =
+      painted-as
+      (λ m _. (λ h. imageInk (fg-is s state fg h) (bg-is f s state bg h) (drop (s .pos + sized h) src) m)
+      ∙ image-ink (frameOf f) (stateOf (frameOf f) src dst s) (s .pos) src refl t m)
+      p
+
+  pub image-paintable : Framed (length dst) (frameOf f) → Sound (frameOf f) s → (n : ℕ) → 1 ≤ n → (p : CodePlan)
+      → countsIn p ≡ countsOf (f .depth .bytes) (pick t SetFgBgImage FgBgImage) n (length src - s .pos) (f .total - s .pixels)
+      → Paintable (f .depth .bytes) (f .width) (s .pixels) (p .pixels) dst i
+      × (Paintable (f .depth .bytes) (f .width) (s .pixels) (p .pixels) dst j × (p .pixels ≤ (length src - (s .pos + size)) * 8))
+  image-paintable frame sound n one p plans =
+      let k = pick t SetFgBgImage FgBgImage in
+      let w = within (frameOf f) s frame sound k n (length src - s .pos) one p plans in
+      let enough = subst (λ (c : Counts). c .pixels ≤ (length src - s .pos - pick t (f .depth .bytes) 0) * 8) (sym plans)
+      (image-enough (f .depth .bytes) n (length src - s .pos) (f .total - s .pixels) t) in (
+        rw (fg, state) (paintable dst (p .pixels) _ frame sound (w .pixels) (fg-row sound) (kind-of-depth frame (sound .foreground) (drop (s .pos) src) k)),
+        (rw (bg, state) (paintable dst (p .pixels) _ frame sound (w .pixels) (bg-row sound) (frame .black)), rw sized (omega (arith, enough))),
+      )

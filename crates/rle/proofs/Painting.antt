@@ -1,8 +1,8 @@
 -- Laws of painting: one pixel, then n of them. Assumes nothing.
-use mathlib.Core.Path.{_≡_, refl, ap, sym, _∙_, subst, fun-ext}
+use mathlib.Core.Path.{_≡_, refl, ap, sym, _∙_, subst}
 use mathlib.Core.List.{List, [], _∷_, _++_}
 use mathlib.Core.Bool.{Bool, true, false}
-use Prim.Native.Nat.{ℕ, zero, suc, _+_, _*_, _-_, _/_, _%_, _^_, _≤_, _<_}
+use Prim.Native.Nat.{ℕ, zero, suc, _+_, _*_, _-_, _/_, _%_, _^_, _≤_, _<_, zero-le}
 use native.Mathlib.Nat.{add-zero, add-suc, div-one, div-div-eq-div-mul, pow-suc, mul-le-mul-right, mul-le-mul-left}
 use native.Mathlib.Numerals.{add-one}
 use native.Mathlib.Omega.{arith}
@@ -10,13 +10,14 @@ use lib.Dec.{ltb, eqb}
 use borrow.Author.Tests.{ne-eqb}
 use lib.Bits.{bitXor}
 use lib.ListN.{length, getD, drop, length-append}
-use lib.Seq.{drop-drop}
+use lib.Seq.{drop-drop, getD-drop}
 use Rattle.rle.specs.declared.paint.Mode.{Mode}
 use Rattle.rle.specs.declared.paint.Mode.the-variants.{Solid, Above, AboveXor}
 use Rattle.rle.specs.declared.paint.Ink.{Ink as CodeInk}
 use Rattle.picture.specs.Pixels.{Pixel, pick, firstPixel, pixelAt, xorPixel, OfDepth}
 use Rattle.rle.specs.Decode.{Ink, solid, color, paint, pixelAbove, insertInk, maskInk, ditherInk}
-use Rattle.rle.specs.Contracts.{pixelsOf, storePixel, HasPlace, Paintable, PaintedOne, Painted, reach, inkOf}
+use Rattle.rle.specs.Plan.{imageInk}
+use Rattle.rle.specs.Contracts.{pixelsOf, storePixel, HasPlace, Paintable, PaintedOne, Painted, reach, inkOf, solidInk}
 use Rattle.picture.proofs.Pixels.{first-pixel-cong, getD-first-pixel, length-first-pixel}
 use Rattle.rle.proofs.Pixels.{length-pixelsOf, getD-pixelsOf, store-before, store-there, store-after}
 
@@ -24,6 +25,10 @@ use Rattle.rle.proofs.Pixels.{length-pixelsOf, getD-pixelsOf, store-bef
 
 pub of-depth : (D : ℕ) (xs : List ℕ) → 1 ≤ D → D ≤ 3 → OfDepth D (firstPixel D xs)
 of-depth D xs low high = first-pixel-cong D (firstPixel D xs) xs low (λ i b. getD-first-pixel D xs i b high)
+
+-- so has a pixel that is read
+pub read-of-depth : {D : ℕ} {p : Pixel} (xs : List ℕ) → 1 ≤ D → D ≤ 3 → p ≡ firstPixel D xs → OfDepth D p
+read-of-depth {D} xs low high e = rw e (of-depth D xs low high)
 
 xor-pick : (t : Bool) (a b : ℕ) → pick t a 0 ≡ a → pick t b 0 ≡ b → pick t (bitXor a b) 0 ≡ bitXor a b
 xor-pick true a b p q = refl
@@ -95,6 +100,10 @@ pub painted-none : {D w k : ℕ} {ink : ℕ → Ink} {xs : List ℕ} → Painted
 unfolding paint
 painted-none = record { pixels = rw add-zero; rest = refl }
 
+-- nothing to paint
+pub painted-zero : {D w k n : ℕ} {ink : ℕ → Ink} {xs : List ℕ} → n ≡ 0 → Painted D w ink k n xs xs
+painted-zero {D} {w} {k} {ink = ink} {xs} e = subst (λ (m : ℕ). Painted D w ink k m xs xs) (sym e) painted-none
+
 pub painted-more : (D w k n : ℕ) (ink : ℕ → Ink) (xs ys zs : List ℕ) → Painted D w ink k n xs ys
     → PaintedOne D w (ink n) (k + n) ys zs → Painted D w ink k (n + 1) xs zs
 unfolding paint
@@ -133,10 +142,19 @@ painted-at {D} {w} {k} {i} {n} {ink} {xs} {ys} e p = subst (λ (m : ℕ). Painte
 pub one-as : {D w k : ℕ} {i j : Ink} {xs ys : List ℕ} → i ≡ j → PaintedOne D w i k xs ys → PaintedOne D w j k xs ys
 one-as {D} {w} {k} {i} {j} {xs} {ys} e p = subst (λ (x : Ink). PaintedOne D w x k xs ys) e p
 
-pub painted-as : {D w k n : ℕ} {i j : ℕ → Ink} {xs ys : List ℕ} → ((m : ℕ) → i m ≡ j m) → Painted D w i k n xs ys → Painted D w j k n xs ys
-painted-as {D} {w} {k} {n} {i} {j} {xs} {ys} e p = subst (λ (x : ℕ → Ink). Painted D w x k n xs ys) (fun-ext e) p
+-- only the inks of the pixels painted matter
+pub paint-cong : (w : ℕ) (i j : ℕ → Ink) (n : ℕ) (ps : List Pixel) → ((k : ℕ) → k < n → i k ≡ j k) → paint w i n ps ≡ paint w j n ps
+unfolding paint
+paint-cong w i j zero ps e = refl
+paint-cong w i j (suc n) ps e =
+    let r = paint-cong w i j n ps (λ k h. e k (omega arith)) in
+    let c = e n (omega arith) in
+    λ t. r t ++ (color w (r t) (c t) ∷ [])
 
-paint-add : (w : ℕ) (ink : ℕ → Ink) (m n : ℕ) (ps : List Pixel) → paint w ink (m + n) ps ≡ paint w (λ j. ink (m + j)) n (paint w ink m ps)
+pub painted-as : {D w k n : ℕ} {i j : ℕ → Ink} {xs ys : List ℕ} → ((m : ℕ) → m < n → i m ≡ j m) → Painted D w i k n xs ys → Painted D w j k n xs ys
+painted-as {D} {w} {k} {n} {i} {j} {xs} e p = record { pixels = p .pixels ∙ paint-cong w i j n (pixelsOf D k xs) e; rest = p .rest }
+
+pub paint-add : (w : ℕ) (ink : ℕ → Ink) (m n : ℕ) (ps : List Pixel) → paint w ink (m + n) ps ≡ paint w (λ j. ink (m + j)) n (paint w ink m ps)
 unfolding paint
 paint-add w ink m zero ps = rw add-zero
 paint-add w ink m (suc n) ps =
@@ -191,8 +209,12 @@ front {D} {w} {k} {m} n r h =
       pixel = r .pixel;
     }
 
-pub with-ink : {D w k n : ℕ} {xs : List ℕ} {i j : CodeInk} → i ≡ j → Paintable D w k n xs j → Paintable D w k n xs i
-with-ink {D} {w} {k} {n} {xs} e r = subst (λ (x : CodeInk). Paintable D w k n xs x) (sym e) r
+-- a color needs no row above
+pub solid-paintable : {D k n : ℕ} {xs : List ℕ} {i : CodeInk} {p : Pixel} (w : ℕ) → HasPlace D k n xs → 1 ≤ w → OfDepth D p → i ≡ solidInk p → Paintable D w k n xs i
+solid-paintable w h wide of e = rw e (record { low = h .low; high = h .high; wide = wide; fits = h .fits; row = zero-le; pixel = of })
+
+pub solid-is : {i : CodeInk} {p q : Pixel} → i ≡ solidInk p → p ≡ q → inkOf i ≡ solid q
+solid-is e is = ap (λ (x : CodeInk). inkOf x) e ∙ ap solid is
 
 -- ---- a background run
 
@@ -218,20 +240,18 @@ mask-none m = sym (div-one m)
 pub mask-more : (m a i : ℕ) → a ≡ m / 2 ^ i → a / 2 ≡ m / 2 ^ (i + 1)
 mask-more m a i e = rw (e, add-one, pow-suc) (div-div-eq-div-mul m (2 ^ i) 2)
 
-pub pick-ink : (t : Bool) (i j : CodeInk) → inkOf (pick t i j) ≡ pick t (inkOf i) (inkOf j)
-pick-ink true i j = refl
-pick-ink false i j = refl
-
-pub mask-ink : {x : CodeInk} (fg bg : CodeInk) (m a i : ℕ) → x ≡ pick (eqb (a % 2) 1) fg bg → a ≡ m / 2 ^ i
-    → inkOf x ≡ maskInk (inkOf fg) (inkOf bg) m i
+pub mask-ink : (fg bg : Ink) (m a i : ℕ) → a ≡ m / 2 ^ i → pick (eqb (a % 2) 1) fg bg ≡ maskInk fg bg m i
 unfolding maskInk
-mask-ink fg bg m a i x e = ap (λ (y : CodeInk). inkOf y) x ∙ pick-ink (eqb (a % 2) 1) fg bg ∙ rw e
+mask-ink fg bg m a i e = rw e
 
--- either of two inks can be painted where both can
-pub either : {D w k n : ℕ} {xs : List ℕ} {i j : CodeInk} (t : Bool) → Paintable D w k n xs i → Paintable D w k n xs j
-    → Paintable D w k n xs (pick t i j)
-either true a b = a
-either false a b = b
+-- a mask's pixels in an image of many: the image's pixel i is the mask's first
+pub mask-in-image : (fg bg : Ink) (src : List ℕ) (from i j : ℕ) → i % 8 ≡ 0 → j < 8
+    → maskInk fg bg (getD src (from + i / 8) 0) j ≡ imageInk fg bg (drop from src) (i + j)
+unfolding imageInk
+mask-in-image fg bg src from i j whole few =
+    let q : (i + j) / 8 ≡ i / 8 = omega arith in
+    let r : (i + j) % 8 ≡ j = omega arith in
+    rw (q, r, getD-drop)
 
 pub turn-pixel : (D : ℕ) (a b : Pixel) (t : Bool) → OfDepth D a → OfDepth D b → OfDepth D (pick t a b)
 turn-pixel D a b true p q = p

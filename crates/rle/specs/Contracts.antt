@@ -3,27 +3,28 @@
 use mathlib.Core.Path.{_≡_}
 use mathlib.Core.List.{List, [], _∷_, _++_}
 use mathlib.Core.Bool.{Bool, true, false}
-use Prim.Native.Nat.{ℕ, zero, suc, _+_, _-_, _*_, _≤_}
-use lib.Dec.{ltb}
+use Prim.Native.Nat.{ℕ, zero, suc, _+_, _*_, _≤_, _<_}
+use lib.Dec.{ltb, eqb}
 use lib.ListN.{length, take, drop}
 use Rattle.rle.specs.declared.code.RunLength.{RunLength as CodeLength}
 use Rattle.rle.specs.declared.code.RunLength.the-variants.{Of, NotRead}
 use Rattle.rle.specs.declared.paint.Mode.{Mode}
 use Rattle.rle.specs.declared.paint.Mode.the-variants.{Solid, Above, AboveXor}
 use Rattle.rle.specs.declared.paint.Ink.{Ink as CodeInk}
-use Rattle.rle.specs.declared.order.Frame.{Frame as CodeFrame}
-use Rattle.rle.specs.declared.order.State.{State as CodeState}
-use Rattle.rle.specs.declared.order.Answer.{Answer}
-use Rattle.rle.specs.declared.order.Answer.the-variants.{Done, Refused}
-use Rattle.rle.specs.declared.order.Stepped.{Stepped}
+use Rattle.rle.specs.declared.plan.Answer.{Answer}
+use Rattle.rle.specs.declared.plan.Answer.the-variants.{Done, Refused}
+use Rattle.rle.specs.declared.plan.Plan.{Plan as CodePlan}
+use Rattle.rle.specs.declared.state.Frame.{Frame as CodeFrame}
+use Rattle.rle.specs.declared.state.State.{State as CodeState}
+use Rattle.rle.specs.declared.state.Stepped.{Stepped}
 use Rattle.picture.specs.declared.outcome.RleError.{RleError}
-use Rattle.picture.specs.declared.outcome.RleError.the-variants.{InvalidImageSize}
 use Rattle.picture.specs.declared.outcome.Outcome.the-variants.{Err}
 use Rattle.rle.specs.declared.report.Report.{Report}
 use Rattle.picture.specs.Pixels.{Pixel, OfDepth, pick, pixelAt}
 use Rattle.picture.specs.Sizes.{Refusal, refusal, Frame}
-use Rattle.rle.specs.Orders.{RunLength, runLength, noLength}
-use Rattle.rle.specs.Decode.{Ink, solid, above, aboveXor, color, paint, State, Step, done, refused, Run, ended, stopped, decode}
+use Rattle.rle.specs.Orders.{Kind, FgBgImage, SetFgBgImage, SpecialFgBg1, SpecialFgBg2, White, Black, NoOrder, RunLength, runLength, noLength}
+use Rattle.rle.specs.Decode.{Ink, solid, above, aboveXor, color, paint, State, Step, done, refused, Run, ended, stopped, run, decode}
+use Rattle.rle.specs.Plan.{Ending, completes, refuses, Counts, counts, insertAfter, ordersAfter, Progress, progress, progressOf, planOf}
 use Rattle.picture.specs.Outcomes.{refusalOf, refusalIn, formatIn}
 
 -- ---- pixels in bytes
@@ -52,6 +53,26 @@ lengthFits src pos (NotRead e next) = (pos ≤ next) × (next ≤ length src)
 pub record Reads (src : List ℕ) (pos : ℕ) (r : CodeLength) (expected : RunLength) : Type 0 where
   pub is : lengthIs src r ≡ expected
   pub fits : lengthFits src pos r
+
+-- ---- plans
+
+abbrev pub endingIn : Answer → Ending
+endingIn Done = completes
+endingIn (Refused e) = refuses (refusalOf e)
+
+-- what the code's plan counts
+abbrev pub countsIn : CodePlan → Counts
+countsIn p = counts (p .read) (p .pixels) (endingIn (p .answer))
+
+-- the kinds of the orders that one function plans and paints, by their numbers
+abbrev pub imageKind : ℕ → Kind
+imageKind c = pick (eqb c 6) SetFgBgImage FgBgImage
+
+abbrev pub specialKind : ℕ → Kind
+specialKind c = pick (eqb c 8) SpecialFgBg1 SpecialFgBg2
+
+abbrev pub pixelKind : ℕ → Kind
+pixelKind c = pick (ltb 11 c) NoOrder (pick (eqb c 10) White Black)
 
 -- ---- painting
 
@@ -136,9 +157,8 @@ abbrev pub rowAbove : Bool → ℕ → ℕ
 rowAbove true w = 0
 rowAbove false w = w
 
--- what holds of a state between orders, in a stream of `size` bytes
-pub record Sound (f : Frame) (size : ℕ) (s : CodeState) : Type 0 where
-  pub place : s .pos ≤ size
+-- what holds of a state between orders
+pub record Sound (f : Frame) (s : CodeState) : Type 0 where
   pub within : s .pixels ≤ f .total
   pub row : rowAbove (s .«first_row») (f .width) ≤ s .pixels
   pub foreground : OfDepth (f .bytes) (s .foreground)
@@ -174,53 +194,53 @@ pub record Did (f : Frame) (src before after : List ℕ) (s : CodeState) (r : St
   pub rest : drop (r .state .pixels * f .bytes) after ≡ drop (r .state .pixels * f .bytes) before
   pub grows : s .pixels ≤ r .state .pixels
   pub reads : s .pos ≤ r .state .pos
-  pub sound : Sound f (length src) (r .state)
+  pub place : r .state .pos ≤ length src
+  pub mark : r .state .«first_row» ≡ s .«first_row»
+  pub sound : Sound f (r .state)
 
 -- the code's states and answers, exactly
-abbrev pub withFg : CodeState → ℕ → Pixel → CodeState
-withFg s pos p =
+abbrev pub withFg : CodeState → Pixel → CodeState
+withFg s p =
     record {
-      pos = pos;
-      pixels = s .pixels;
       foreground = p;
+      pos = s .pos;
       insert = s .insert;
+      pixels = s .pixels;
       «first_row» = s .«first_row»;
       orders = s .orders;
     }
 
 abbrev pub atPos : CodeState → ℕ → CodeState
-atPos s pos = withFg s pos (s .foreground)
-
-abbrev pub advancedBy : CodeState → ℕ → CodeState
-advancedBy s n =
+atPos s pos =
     record {
-      pos = s .pos;
-      pixels = s .pixels + n;
       foreground = s .foreground;
+      pos = pos;
       insert = s .insert;
+      pixels = s .pixels;
       «first_row» = s .«first_row»;
       orders = s .orders;
     }
 
-abbrev pub completedOf : CodeState → ℕ → Bool → Stepped
-completedOf s n i =
+-- no number of the state behind a plan is too large
+pub record Fits (s : CodeState) (p : CodePlan) : Type 0 where
+  pub read : s .pos + p .read ≤ 18446744073709551615
+  pub pixels : s .pixels + p .pixels ≤ 67108864
+  pub counted : s .orders ≤ s .pixels
+
+-- the answer and the state behind an order that is carried out as planned
+abbrev pub finishedOf : CodeState → CodePlan → Bool → Stepped
+finishedOf s p i =
     record {
-      answer = Done;
+      answer = p .answer;
       state = record {
-        pos = s .pos;
-        pixels = s .pixels + n;
         foreground = s .foreground;
-        insert = i;
+        pos = s .pos + p .read;
+        insert = insertAfter (endingIn (p .answer)) i (s .insert);
+        pixels = s .pixels + p .pixels;
         «first_row» = s .«first_row»;
-        orders = s .orders + 1;
+        orders = ordersAfter (endingIn (p .answer)) (s .orders);
       };
     }
-
-abbrev pub refusedOf : CodeState → RleError → Stepped
-refusedOf s e = record { answer = Refused e; state = s }
-
-abbrev pub tooLargeOf : CodeFrame → CodeState → ℕ → Stepped
-tooLargeOf f s n = refusedOf s (InvalidImageSize ((f .total - s .pixels) * f .depth .bytes) (n * f .depth .bytes))
 
 abbrev pub firstRowEnded : CodeFrame → CodeState → CodeState
 firstRowEnded f s =
@@ -242,11 +262,55 @@ abbrev pub runOf : Answer → State → Run
 runOf Done s = ended s
 runOf (Refused e) s = stopped (refusalOf e) s
 
+-- some number of further orders, enough for the bytes left, gives from the state s what the whole stream gives
+pub record GoesOn (f : Frame) (src : List ℕ) (s : State) : Type 0 where
+  pub fuel : ℕ
+  pub enough : length (s .left) ≤ fuel
+  pub goes : run f fuel s ≡ decode f src
+
+-- what holds before each order
+pub record Going (f : Frame) (src before after : List ℕ) (s : CodeState) : Type 0 where
+  pub sound : Sound f s
+  pub place : s .pos ≤ length src
+  pub same : length after ≡ length before
+  pub rest : drop (s .pixels * f .bytes) after ≡ drop (s .pixels * f .bytes) before
+  pub goes : GoesOn f src (stateOf f src after s)
+
 -- what decoding a whole stream did
 pub record Ran (f : Frame) (src before after : List ℕ) (r : Stepped) : Type 0 where
   pub is : runOf (r .answer) (stateOf f src after (r .state)) ≡ decode f src
   pub rest : drop (r .state .pixels * f .bytes) after ≡ drop (r .state .pixels * f .bytes) before
-  pub sound : Sound f (length src) (r .state)
+  pub sound : Sound f (r .state)
+
+-- what decoding from the state s until `limit` pixels are painted did: below the limit only the stream's end or its refusal ends it
+abbrev pub goneTo : Answer → ℕ → Frame → List ℕ → List ℕ → List ℕ → Stepped → Type 0
+goneTo Done limit f src before after r = Going f src before after (r .state) × (r .state .pixels < limit → length src ≤ r .state .pos)
+goneTo (Refused e) limit f src before after r = Ran f src before after r
+
+pub record GoneTo (limit : ℕ) (f : Frame) (src before after : List ℕ) (s : CodeState) (r : Stepped) : Type 0 where
+  pub grows : s .pixels ≤ r .state .pixels
+  pub gone : goneTo (r .answer) limit f src before after r
+
+-- ---- a walk without a target
+
+-- the definition's progress that the code's state stands for
+abbrev pub progressIn : List ℕ → CodeState → Progress
+progressIn src s = progress (drop (s .pos) src) (s .pixels) (s .insert) (s .«first_row») (s .orders)
+
+-- one order on: answer and progress are those of the plan
+pub record Walks (f : Frame) (src : List ℕ) (s : CodeState) (r : Stepped) : Type 0 where
+  pub ending : endingIn (r .answer) ≡ planOf f (progressIn src s) .ending
+  pub after : progressIn src (r .state) ≡ planOf f (progressIn src s) .after
+  pub reads : s .pos < r .state .pos
+  pub place : r .state .pos ≤ length src
+  pub within : r .state .pixels ≤ f .total
+  pub counted : r .state .orders ≤ r .state .pixels
+
+-- all orders: as the definition ends, but for the pixels and the foreground
+pub record Walked (f : Frame) (src : List ℕ) (r : Stepped) : Type 0 where
+  pub state : State
+  pub is : runOf (r .answer) state ≡ decode f src
+  pub reached : progressIn src (r .state) ≡ progressOf state
 
 -- ---- the report
 
@@ -258,12 +322,12 @@ abbrev pub formatAfter : Answer → ℕ → ℕ
 formatAfter Done k = k
 formatAfter (Refused e) k = 0
 
--- what the report says of a stream that was decoded
-pub record Reports (s : Stepped) (k : ℕ) (r : Report) : Type 0 where
-  pub refusal : refusalIn (r .outcome) ≡ refusalAfter (s .answer)
-  pub format : formatIn (r .outcome) ≡ formatAfter (s .answer) k
-  pub pixels : r .pixels ≡ s .state .pixels
-  pub orders : r .orders ≡ s .state .orders
+-- what the report says of a stream that was followed to its end or its refusal
+pub record Reports (a : Answer) (painted completed k : ℕ) (r : Report) : Type 0 where
+  pub refusal : refusalIn (r .outcome) ≡ refusalAfter a
+  pub format : formatIn (r .outcome) ≡ formatAfter a k
+  pub pixels : r .pixels ≡ painted
+  pub orders : r .orders ≡ completed
 
 abbrev pub notDecoded : RleError → Report
 notDecoded e = record { outcome = Err e; pixels = 0; orders = 0 }

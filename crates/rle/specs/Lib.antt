@@ -1,5 +1,6 @@
 pub mod Orders
 pub mod Decode
+pub mod Plan
 pub mod Report
 pub mod Codes
 pub mod Contracts

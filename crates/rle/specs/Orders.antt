@@ -2,7 +2,7 @@
 -- picture and no state.
 use mathlib.Core.List.{List, [], _∷_}
 use mathlib.Core.Bool.{Bool, true, false}
-use Prim.Native.Nat.{ℕ, suc, _+_, _*_, _%_}
+use Prim.Native.Nat.{ℕ, _+_, _*_, _%_}
 use lib.Dec.{ltb, leb, eqb}
 use lib.ListN.{length, getD, drop}
 use Rattle.picture.specs.Pixels.{pick}
@@ -41,7 +41,7 @@ pub record Row : Type 0 where
 unfoldable pub row : Kind → ℕ → ℕ → Lengths → Row
 row k a n l = record { kind = k; from = a; size = n; lengths = l }
 
--- the kinds, by number
+-- one row for each kind
 unfoldable pub rows : List Row
 unfolding row
 rows =
@@ -63,13 +63,6 @@ unfoldable pub noRow : Row
 unfolding row
 noRow = row NoOrder 0 0 (fixed 1)
 
-unfoldable pub kindRow : ℕ → Row
-kindRow c = getD rows c noRow
-
--- the kind of a number; all from 12 on are no order
-unfoldable pub kindOf : ℕ → Kind
-kindOf c = kindRow c .kind
-
 unfoldable pub isMegaMega : ℕ → Lengths → Bool
 isMegaMega h (written unit mega header) = eqb h header
 isMegaMega h (fixed n) = false
@@ -77,13 +70,28 @@ isMegaMega h (fixed n) = false
 unfoldable pub hasHeader : ℕ → Row → Bool
 hasHeader h r = pick (pick (leb (r .from) h) (ltb h (r .from + r .size)) false) true (isMegaMega h (r .lengths))
 
-unfoldable pub numberIn : ℕ → List Row → ℕ
-numberIn h [] = 0
-numberIn h (r ∷ rs) = pick (hasHeader h r) 0 (suc (numberIn h rs))
+unfoldable pub rowIn : ℕ → List Row → Row
+rowIn h [] = noRow
+rowIn h (r ∷ rs) = pick (hasHeader h r) r (rowIn h rs)
 
--- the number of the header's kind; 12: no order
-unfoldable pub kindNumber : ℕ → ℕ
-kindNumber h = numberIn h rows
+-- the row of a header
+unfoldable pub rowOf : ℕ → Row
+rowOf h = rowIn h rows
+
+-- where a run length stands: nowhere (its kind has just one), in the header, in the byte after it, or in two
+pub data Place : Type 0 where
+  nowhere : Place
+  inHeader : Place
+  inByte : Place
+  inTwoBytes : Place
+
+unfoldable pub placeIn : ℕ → ℕ → Lengths → Place
+placeIn h size (written unit mega header) = pick (eqb h header) inTwoBytes (pick (eqb (h % size) 0) inByte inHeader)
+placeIn h size (fixed n) = nowhere
+
+-- the place of the length in an order with header h, of row r
+unfoldable pub placeOf : Row → ℕ → Place
+placeOf r h = placeIn h (r .size) (r .lengths)
 
 -- a run length with the stream's bytes left after it, or a refusal
 pub data RunLength : Type 0 where
@@ -94,24 +102,33 @@ pub data RunLength : Type 0 where
 unfoldable pub withBytes : ℕ → List ℕ → RunLength → RunLength
 withBytes k rest l = pick (leb k (length rest)) l (noLength (refusal 6 k (length rest)) rest)
 
--- n where the header's low bits are not 0, else the next byte plus mega
-unfoldable pub shortLength : ℕ → ℕ → ℕ → List ℕ → RunLength
-shortLength low n mega rest =
-    pick (eqb low 0) (withBytes 1 rest (runLength (getD rest 0 0 + mega) (drop 1 rest))) (runLength n rest)
+unfoldable pub megaLength : ℕ → List ℕ → RunLength
+megaLength mega rest = withBytes 1 rest (runLength (getD rest 0 0 + mega) (drop 1 rest))
 
 unfoldable pub megaMegaLength : List ℕ → RunLength
 megaMegaLength rest =
     let n = getD rest 0 0 + getD rest 1 0 * 256 in
     withBytes 2 rest (pick (eqb n 0) (noLength (refusal 8 0 0) (drop 2 rest)) (runLength n (drop 2 rest)))
 
-unfoldable pub lengthIn : ℕ → Lengths → ℕ → List ℕ → RunLength
-lengthIn size (written unit mega _) h rest =
-    pick (ltb h 0xF0) (shortLength (h % size) (h % size * unit) mega rest) (megaMegaLength rest)
-lengthIn size (fixed n) h rest = runLength n rest
+-- the header's own length, where it stands there or nowhere
+unfoldable pub ownLength : ℕ → ℕ → Lengths → ℕ
+ownLength h size (written unit mega header) = h % size * unit
+ownLength h size (fixed n) = n
 
--- the run length of the order with header h, of kind number c
-unfoldable pub lengthOf : ℕ → ℕ → List ℕ → RunLength
-lengthOf h c rest = lengthIn (kindRow c .size) (kindRow c .lengths) h rest
+-- what is added to the length in the byte after the header
+unfoldable pub megaOf : Lengths → ℕ
+megaOf (written unit mega header) = mega
+megaOf (fixed n) = 0
+
+unfoldable pub lengthAt : Place → ℕ → ℕ → List ℕ → RunLength
+lengthAt nowhere n mega rest = runLength n rest
+lengthAt inHeader n mega rest = runLength n rest
+lengthAt inByte n mega rest = megaLength mega rest
+lengthAt inTwoBytes n mega rest = megaMegaLength rest
+
+-- the run length of an order with header h, of row r
+unfoldable pub lengthOf : Row → ℕ → List ℕ → RunLength
+lengthOf r h rest = lengthAt (placeOf r h) (ownLength h (r .size) (r .lengths)) (megaOf (r .lengths)) rest
 
 -- an order's kind, its run length, and the bytes left; or a refusal
 pub data Head : Type 0 where
@@ -126,5 +143,4 @@ headed k (noLength r rest) = noHead r rest
 unfoldable pub headOf : List ℕ → Head
 headOf stream =
     let h = getD stream 0 0 in
-    let c = kindNumber h in
-    headed (kindOf c) (lengthOf h c (drop 1 stream))
+    headed (rowOf h .kind) (lengthOf (rowOf h) h (drop 1 stream))

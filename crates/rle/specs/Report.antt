@@ -1,4 +1,4 @@
--- What `decompress` promises, as equations with the definition.
+-- What the public functions promise, as equations with the definition.
 use mathlib.Core.Path.{_≡_}
 use mathlib.Core.List.{List, _++_}
 use Prim.Native.Nat.{ℕ, _*_, _≤_}
@@ -20,6 +20,13 @@ pub record Agrees (src before after : List ℕ) (total : ℕ) (r : Report) (e : 
   pub within : r .pixels ≤ total
   pub counted : r .orders ≤ r .pixels
   pub bounded : r .pixels ≤ 26214 * length src
+
+-- the report alone is that of the result e
+pub record Reported (r : Report) (e : Result) : Type 0 where
+  pub refusal : refusalIn (r .outcome) ≡ e .refusal
+  pub format : formatIn (r .outcome) ≡ e .format
+  pub pixels : r .pixels ≡ length (e .painted)
+  pub orders : r .orders ≡ e .orders
 
 -- one call, with the stream src, into a target that held `before` and then holds `after`
 abbrev pub Decompresses : List ℕ → ℕ → ℕ → ℕ → List ℕ → List ℕ → Report → Type 0

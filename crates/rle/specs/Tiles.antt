@@ -72,16 +72,18 @@ unfolding tiles decoded painting
     Orders.row
     Orders.rows
     Orders.noRow
-    Orders.kindRow
-    Orders.kindOf
     Orders.isMegaMega
     Orders.hasHeader
-    Orders.numberIn
-    Orders.kindNumber
+    Orders.rowIn
+    Orders.rowOf
+    Orders.placeIn
+    Orders.placeOf
     Orders.withBytes
-    Orders.shortLength
+    Orders.megaLength
     Orders.megaMegaLength
-    Orders.lengthIn
+    Orders.ownLength
+    Orders.megaOf
+    Orders.lengthAt
     Orders.lengthOf
     Orders.headed
     Orders.headOf

@@ -1,9 +1,12 @@
 // An order's run length, in its header or in the bytes after it.
 ghost use mathlib.Core.Path.{_≡_};
-ghost use Prim.Native.Nat.{_≤_};
+ghost use Prim.Native.Nat.{_≤_, _<_};
 ghost use lib.ListN.{length, drop};
-ghost use Rattle.rle.specs.Orders.{lengthOf, shortLength, megaMegaLength};
+ghost use Rattle.rle.specs.Orders.{rowOf, lengthOf, megaLength, megaMegaLength};
+ghost use Rattle.rle.specs.Codes as codes;
+ghost use Rattle.rle.specs.Codes.{kindNumber, megaNumber};
 ghost use Rattle.rle.specs.Contracts.{Reads};
+use crate::header::own_length;
 use buf::Read;
 use buf::u8_from;
 use buf::u16_from;
@@ -15,33 +18,18 @@ pub(crate) enum RunLength {
     NotRead(RleError, usize),
 }
 
-pub(crate) fn widen(x: u8) -> usize
-    ensures { λ r. ⌜ (r ≡ x) × (r ≤ 255) ⌝ }
+// A length of one byte, to which `mega` is added.
+pub(crate) fn extract_run_length_mega(src: &[u8], pos: usize, mega: usize) -> RunLength
+    requires { ⌜ (pos ≤ length (now src)) × (1 ≤ mega) × (mega ≤ 32) ⌝ }
+    ensures { λ r. ⌜ Reads (now (src .entry)) pos r (megaLength mega (drop pos (now (src .entry)))) ⌝ }
 {
-    x as usize
-}
-
-// The length n of the header, or where its low bits are 0 the next byte plus mega.
-pub(crate) fn extract_run_length_short(
-    src: &[u8],
-    pos: usize,
-    low: usize,
-    n: usize,
-    mega: usize,
-) -> RunLength
-    requires { ⌜ (pos ≤ length (now src)) × (low ≤ n) × (n ≤ 248) × (1 ≤ mega) × (mega ≤ 32) ⌝ }
-    ensures { λ r. ⌜ Reads (now (src .entry)) pos r (shortLength low n mega (drop pos (now (src .entry)))) ⌝ }
-{
-    if low == 0 {
-        let read = u8_from(src, pos);
-        return match read {
-            Read::NotEnoughBytes { expected, actual } => {
-                RunLength::NotRead(RleError::NotEnoughBytes { expected, actual }, pos)
-            }
-            Read::Value(byte) => RunLength::Of(byte + mega, pos + 1),
-        };
+    let read = u8_from(src, pos);
+    match read {
+        Read::NotEnoughBytes { expected, actual } => {
+            RunLength::NotRead(RleError::NotEnoughBytes { expected, actual }, pos)
+        }
+        Read::Value(byte) => RunLength::Of(byte + mega, pos + 1),
     }
-    RunLength::Of(n, pos)
 }
 
 // A length of two bytes.
@@ -63,29 +51,40 @@ pub(crate) fn extract_run_length_mega_mega(src: &[u8], pos: usize) -> RunLength
     }
 }
 
-// The run length of the order with this header, of this kind, from src[pos] on.
-pub(crate) fn extract_run_length(src: &[u8], pos: usize, header: u8, kind: u8) -> RunLength
-    requires { ⌜ pos ≤ length (now src) ⌝ }
-    ensures { λ r. ⌜ Reads (now (src .entry)) pos r (lengthOf header kind (drop pos (now (src .entry)))) ⌝ }
+// What a kind adds to a length of one byte.
+pub(crate) fn mega(kind: u8) -> usize
+    ensures { λ r. ⌜ r ≡ megaNumber kind ⌝ }
 {
-    if 9 < kind {
-        return RunLength::Of(1, pos);
+    if kind == 2 {
+        return 1;
     }
-    if 7 < kind {
-        return RunLength::Of(8, pos);
+    if kind == 6 {
+        return 1;
+    }
+    if kind < 5 {
+        return 32;
+    }
+    16
+}
+
+// The run length of the order with this header, of this kind, from src[pos] on.
+pub(crate) fn extract_run_length(
+    src: &[u8],
+    lengths: &[u8; 256],
+    pos: usize,
+    header: usize,
+    kind: u8,
+) -> RunLength
+    requires { ⌜ now lengths ≡ codes.lengths ⌝ }
+    requires { ⌜ (pos ≤ length (now src)) × (header < 256) × (kind ≡ kindNumber header) ⌝ }
+    ensures { λ r. ⌜ Reads (now (src .entry)) pos r (lengthOf (rowOf header) header (drop pos (now (src .entry)))) ⌝ }
+{
+    let n = own_length(lengths, header);
+    if 0 < n {
+        return RunLength::Of(n, pos);
     }
     if header < 0xF0 {
-        let h = widen(header);
-        if kind == 2 {
-            return extract_run_length_short(src, pos, h % 32, h % 32 * 8, 1);
-        }
-        if kind == 6 {
-            return extract_run_length_short(src, pos, h % 16, h % 16 * 8, 1);
-        }
-        if kind < 5 {
-            return extract_run_length_short(src, pos, h % 32, h % 32, 32);
-        }
-        return extract_run_length_short(src, pos, h % 16, h % 16, 16);
+        return extract_run_length_mega(src, pos, mega(kind));
     }
     extract_run_length_mega_mega(src, pos)
 }

@@ -1,27 +1,58 @@
 // The whole stream: the loop over its orders.
 ghost use mathlib.Core.Path.{_≡_};
+ghost use mathlib.Core.Bool.{true};
+ghost use Prim.Native.Nat.{_≤_};
 ghost use lib.ListN.{length};
-ghost use Rattle.rle.specs.Contracts.{frameOf, startOf, Framed, Ran};
+ghost use Rattle.rle.specs.Codes as codes;
+ghost use Rattle.rle.specs.Contracts.{frameOf, Framed, Going, GoneTo, Ran};
 use crate::header::header_kinds;
-use crate::order::Answer;
-use crate::order::Frame;
-use crate::order::State;
-use crate::order::Stepped;
+use crate::header::header_lengths;
 use crate::order::order;
+use crate::plan::Answer;
+use crate::state::Frame;
+use crate::state::State;
+use crate::state::Stepped;
+use crate::state::end_first_row;
+use crate::state::start;
+use buf::Read;
+use buf::u8_from;
 
-// The state before the first order.
-pub(crate) fn start(f: Frame) -> State
-    ensures { λ r. ⌜ r ≡ startOf f ⌝ }
+// Orders from the state s on until `limit` pixels are painted, or to the stream's end or its refusal. In the first row the limit is
+// its end, so that no order has to look for it.
+pub(crate) fn orders_to(
+    src: &[u8],
+    dst: &mut [u8],
+    kinds: &[u8; 256],
+    lengths: &[u8; 256],
+    f: Frame,
+    s: State,
+    limit: usize,
+) -> Stepped
+    requires { ⌜ Framed (length (now dst)) (frameOf f) ⌝ }
+    requires { ⌜ (now kinds ≡ codes.kinds) × (now lengths ≡ codes.lengths) ⌝ }
+    requires { ⌜ Going (frameOf f) (now src) (now dst) (now dst) s ⌝ }
+    requires { ⌜ (s .«first_row» ≡ true → limit ≤ f .width) ⌝ }
+    ensures { λ r. ⌜ GoneTo limit (frameOf f) (now (src .entry)) (now (dst .entry)) (now (dst .exit)) s r ⌝ }
 {
-    let d = f.depth;
-    let p = d.white;
-    State {
-        pos: 0,
-        pixels: 0,
-        foreground: p,
-        insert: false,
-        first_row: true,
-        orders: 0,
+    let mut t = s;
+    while t.pixels < limit {
+        let pos = t.pos;
+        let Read::Value(header) = u8_from(src, pos) else {
+            return Stepped {
+                answer: Answer::Done,
+                state: t,
+            };
+        };
+        let r = order(src, dst, kinds, lengths, f, t, header);
+        let a = r.answer;
+        if let Answer::Refused(_) = a {
+            return r;
+        }
+        t = r.state;
+    }
+    Stepped {
+        answer: Answer::Done,
+        state: t,
     }
 }
 
@@ -31,20 +62,21 @@ pub(crate) fn decompress_impl(src: &[u8], dst: &mut [u8], f: Frame) -> Stepped
     ensures { λ r. ⌜ Ran (frameOf f) (now (src .entry)) (now (dst .entry)) (now (dst .exit)) r ⌝ }
 {
     let kinds = header_kinds();
+    let lengths = header_lengths();
     let mut s = start(f);
+    let mut limit = f.width;
+    // Two turns at most, the first row and the rest: one call, so that the compiler makes one loop of both.
     loop {
-        let pos = s.pos;
-        if src.len() <= pos {
-            return Stepped {
-                answer: Answer::Done,
-                state: s,
-            };
-        }
-        let r = order(src, dst, &kinds, f, s);
+        let r = orders_to(src, dst, &kinds, &lengths, f, s, limit);
         let a = r.answer;
         if let Answer::Refused(_) = a {
             return r;
         }
-        s = r.state;
+        let t = r.state;
+        if src.len() <= t.pos {
+            return r;
+        }
+        s = end_first_row(f, t);
+        limit = f.total + 1;
     }
 }

@@ -1,7 +1,8 @@
 // Decoder of interleaved RLE bitmaps (MS-RDPBCGR 2.2.9.1.1.3.1.2.4 and 3.1.9), a port of IronRDP's rle.rs.
 //
 // What a stream means is defined in specs/Decode.antt; what `decompress` promises of it, in specs/Report.antt.
-ghost use Rattle.rle.specs.Report.{Decompresses};
+ghost use Rattle.rle.specs.Decode.{result};
+ghost use Rattle.rle.specs.Report.{Decompresses, Reported};
 
 pub(crate) mod code;
 pub(crate) mod decode;
@@ -9,10 +10,12 @@ pub(crate) mod header;
 pub(crate) mod order;
 pub(crate) mod paint;
 pub(crate) mod pixel;
+pub(crate) mod plan;
 pub mod report;
+pub(crate) mod state;
+pub(crate) mod walk;
 
 use decode::decompress_impl;
-use order::Frame;
 use picture::PictureSize;
 use picture::RleError;
 use picture::depth_of;
@@ -20,6 +23,8 @@ use picture::picture_size;
 pub use report::Report;
 use report::not_decoded;
 use report::report_of;
+use state::Frame;
+use walk::walk_stream;
 
 // Decodes the stream `src` of a picture into the first bytes of `dst`, of which the bytes after the painted pixels stay.
 pub fn decompress(src: &[u8], dst: &mut [u8], width: usize, height: usize, bpp: usize) -> Report
@@ -40,7 +45,31 @@ pub fn decompress(src: &[u8], dst: &mut [u8], width: usize, height: usize, bpp: 
                 total: width * height,
             };
             let r = decompress_impl(src, dst, f);
-            report_of(r, depth.format)
+            let a = r.answer;
+            let s = r.state;
+            report_of(a, s.pixels, s.orders, depth.format)
+        }
+    }
+}
+
+// What `decompress` reports of the stream in every target that has space, without one.
+pub fn count_orders(src: &[u8], width: usize, height: usize, bpp: usize) -> Report
+    ensures { λ r. ⌜ Reported r (result (now (src .entry)) bpp width height) ⌝ }
+{
+    let size = picture_size(width, height, bpp);
+    match size {
+        PictureSize::Refused(e) => not_decoded(e),
+        PictureSize::Bytes(_) => {
+            let depth = depth_of(bpp);
+            let f = Frame {
+                depth,
+                width,
+                total: width * height,
+            };
+            let r = walk_stream(src, f);
+            let a = r.answer;
+            let s = r.state;
+            report_of(a, s.pixels, s.orders, depth.format)
         }
     }
 }

@@ -1,14 +1,16 @@
 // Painting pixels into a target: pixel k stands in its bytes from k * d on, and the pixel above it w pixels before.
 ghost use mathlib.Core.Path.{_≡_};
-ghost use Prim.Native.Nat.{ℕ, _+_, _*_, _%_, _≤_};
+ghost use Prim.Native.Nat.{ℕ, _+_, _-_, _*_, _%_, _≤_, _<_};
 ghost use lib.Dec.{eqb};
 ghost use lib.ListN.{length, drop};
-ghost use Rattle.picture.specs.Pixels.{pick, pixelAt, OfDepth};
+ghost use Rattle.picture.specs.Pixels.{pick, firstPixel, pixelAt, OfDepth};
 ghost use Rattle.rle.specs.Decode as decode;
+ghost use Rattle.rle.specs.Plan.{imageInk};
 ghost use Rattle.rle.specs.Contracts.{HasPlace, Paintable, PaintedOne, Painted, inkOf, solidInk};
 use crate::pixel::read_pixel;
 use crate::pixel::write_pixel;
 use crate::pixel::xor;
+use crate::plan::at_most_8;
 
 pub(crate) enum Mode {
     Solid,
@@ -62,6 +64,38 @@ pub(crate) fn paint_run(dst: &mut [u8], d: usize, w: usize, k: usize, n: usize, 
     }
 }
 
+// The same, without a call where there is nothing to paint: a plan that refuses its order asks for no pixel, and is seen through here.
+pub(crate) fn paint_fg_run(dst: &mut [u8], d: usize, w: usize, k: usize, n: usize, ink: Ink)
+    requires { ⌜ Paintable d w k n (now dst) ink ⌝ }
+    ensures { λ _. ⌜ Painted d w (λ _. inkOf ink) k n (now (dst .entry)) (now (dst .exit)) ⌝ }
+{
+    if n == 0 {
+        return;
+    }
+    paint_run(dst, d, w, k, n, ink)
+}
+
+// n pixels from number k on, in the color that stands at src[pos].
+pub(crate) fn paint_color_run(
+    src: &[u8],
+    pos: usize,
+    dst: &mut [u8],
+    d: usize,
+    w: usize,
+    k: usize,
+    n: usize,
+)
+    requires { ⌜ HasPlace d k n (now dst) ⌝ }
+    requires { ⌜ (0 < n → pos + d ≤ length (now src)) × (1 ≤ w) ⌝ }
+    ensures { λ _. ⌜ Painted d w (λ _. decode.Ink.solid (firstPixel d (drop pos (now (src .entry))))) k n (now (dst .entry)) (now (dst .exit)) ⌝ }
+{
+    if n == 0 {
+        return;
+    }
+    let color = read_pixel(src, d, pos);
+    paint_run(dst, d, w, k, n, solid(color))
+}
+
 // A background run's n pixels, the first with the foreground's ink where an insert is pending.
 pub(crate) fn paint_bg_run(
     dst: &mut [u8],
@@ -75,9 +109,11 @@ pub(crate) fn paint_bg_run(
 )
     requires { ⌜ Paintable d w k n (now dst) fg ⌝ }
     requires { ⌜ Paintable d w k n (now dst) bg ⌝ }
-    requires { ⌜ 1 ≤ n ⌝ }
     ensures { λ _. ⌜ Painted d w (decode.insertInk insert (inkOf fg) (inkOf bg)) k n (now (dst .entry)) (now (dst .exit)) ⌝ }
 {
+    if n == 0 {
+        return;
+    }
     if insert {
         paint_pixel(dst, d, w, k, fg);
         return paint_run(dst, d, w, k + 1, n - 1, bg);
@@ -85,13 +121,16 @@ pub(crate) fn paint_bg_run(
     paint_run(dst, d, w, k, n, bg)
 }
 
-pub(crate) fn ink_of_bit(bit: u8, fg: Ink, bg: Ink) -> Ink
-    ensures { λ r. ⌜ r ≡ pick (eqb bit 1) fg bg ⌝ }
+// Pixel k, by a bit of a mask.
+pub(crate) fn paint_bit(dst: &mut [u8], d: usize, w: usize, k: usize, bit: u8, fg: Ink, bg: Ink)
+    requires { ⌜ Paintable d w k 1 (now dst) fg ⌝ }
+    requires { ⌜ Paintable d w k 1 (now dst) bg ⌝ }
+    ensures { λ _. ⌜ PaintedOne d w (pick (eqb bit 1) (inkOf fg) (inkOf bg)) k (now (dst .entry)) (now (dst .exit)) ⌝ }
 {
     if bit == 1 {
-        return fg;
+        return paint_pixel(dst, d, w, k, fg);
     }
-    bg
+    paint_pixel(dst, d, w, k, bg)
 }
 
 // n pixels from number k on, by the bits of a mask.
@@ -112,9 +151,37 @@ pub(crate) fn paint_mask(
     let mut m = mask;
     let mut i = 0;
     while i < n {
-        paint_pixel(dst, d, w, k + i, ink_of_bit(m % 2, fg, bg));
+        paint_bit(dst, d, w, k + i, m % 2, fg, bg);
         m = m / 2;
         i += 1;
+    }
+}
+
+// n pixels from number k on, eight to a mask, by the masks from src[from] on.
+pub(crate) fn paint_masks(
+    src: &[u8],
+    from: usize,
+    dst: &mut [u8],
+    d: usize,
+    w: usize,
+    k: usize,
+    n: usize,
+    fg: Ink,
+    bg: Ink,
+)
+    requires { ⌜ Paintable d w k n (now dst) fg ⌝ }
+    requires { ⌜ Paintable d w k n (now dst) bg ⌝ }
+    requires { ⌜ n ≤ (length (now src) - from) * 8 ⌝ }
+    ensures { λ _. ⌜ Painted d w (imageInk (inkOf fg) (inkOf bg) (drop from (now (src .entry)))) k n (now (dst .entry)) (now (dst .exit)) ⌝ }
+{
+    if n == 0 {
+        return;
+    }
+    let mut i = 0;
+    while i < n {
+        let m = at_most_8(n - i);
+        paint_mask(dst, d, w, k + i, m, src[from + i / 8], fg, bg);
+        i += m;
     }
 }
 
@@ -135,10 +202,45 @@ pub(crate) fn paint_dithered(dst: &mut [u8], d: usize, k: usize, n: usize, a: [u
     ensures { λ _. ⌜ ((w : ℕ) → Painted d w (decode.ditherInk a b) k n (now (dst .entry)) (now (dst .exit))) ⌝ }
 {
     let mut i = 0;
+    let mut to = k * d;
     while i < n {
-        write_pixel(dst, d, (k + i) * d, dither_pixel(a, b, i));
+        write_pixel(dst, d, to, dither_pixel(a, b, i));
+        to += d;
         i += 1;
     }
+}
+
+// n pixels from number k on, by turns in the two colors that stand at src[pos].
+pub(crate) fn paint_dithered_run(
+    src: &[u8],
+    pos: usize,
+    dst: &mut [u8],
+    d: usize,
+    k: usize,
+    n: usize,
+)
+    requires { ⌜ HasPlace d k n (now dst) ⌝ }
+    requires { ⌜ (0 < n → pos + 2 * d ≤ length (now src)) ⌝ }
+    ensures { λ _. ⌜ ((w : ℕ) → Painted d w (decode.ditherInk (firstPixel d (drop pos (now (src .entry)))) (firstPixel d (drop d (drop pos (now (src .entry)))))) k n (now (dst .entry)) (now (dst .exit))) ⌝ }
+{
+    if n == 0 {
+        return;
+    }
+    let a = read_pixel(src, d, pos);
+    let b = read_pixel(src, d, pos + d);
+    paint_dithered(dst, d, k, n, a, b)
+}
+
+// One pixel or none, at number k.
+pub(crate) fn paint_single(dst: &mut [u8], d: usize, k: usize, n: usize, p: [u8; 3])
+    requires { ⌜ HasPlace d k n (now dst) ⌝ }
+    requires { ⌜ (n ≤ 1) × OfDepth d p ⌝ }
+    ensures { λ _. ⌜ ((w : ℕ) → Painted d w (λ _. decode.Ink.solid p) k n (now (dst .entry)) (now (dst .exit))) ⌝ }
+{
+    if n == 0 {
+        return;
+    }
+    write_pixel(dst, d, k * d, p)
 }
 
 // n pixels from number k on, those of the stream from src[pos] on.
@@ -147,10 +249,17 @@ pub(crate) fn paint_image(src: &[u8], pos: usize, dst: &mut [u8], d: usize, k: u
     requires { ⌜ pos + n * d ≤ length (now src) ⌝ }
     ensures { λ _. ⌜ ((w : ℕ) → Painted d w (λ j. decode.Ink.solid (pixelAt d (drop pos (now (src .entry))) j)) k n (now (dst .entry)) (now (dst .exit))) ⌝ }
 {
+    if n == 0 {
+        return;
+    }
     let mut i = 0;
+    let mut from = pos;
+    let mut to = k * d;
     while i < n {
-        let p = read_pixel(src, d, pos + i * d);
-        write_pixel(dst, d, (k + i) * d, p);
+        let p = read_pixel(src, d, from);
+        write_pixel(dst, d, to, p);
+        from += d;
+        to += d;
         i += 1;
     }
 }

@@ -4,8 +4,7 @@ ghost use Prim.Native.Nat.{_<_};
 ghost use Rattle.picture.specs.Sizes.{depthIndex};
 ghost use Rattle.picture.specs.Outcomes.{formatOf};
 ghost use Rattle.rle.specs.Contracts.{Reports, notDecoded};
-use crate::order::Answer;
-use crate::order::Stepped;
+use crate::plan::Answer;
 use picture::Outcome;
 use picture::RleError;
 use picture::RlePixelFormat;
@@ -30,23 +29,21 @@ pub(crate) fn pixel_format(format: u8) -> RlePixelFormat
     }
 }
 
-// The report of a stream that was decoded to its end or its refusal.
-pub(crate) fn report_of(r: Stepped, format: u8) -> Report
+// The report of a stream that was followed to its end or its refusal.
+pub(crate) fn report_of(a: Answer, pixels: usize, orders: usize, format: u8) -> Report
     requires { ⌜ depthIndex format < 4 ⌝ }
-    ensures { λ t. ⌜ Reports r format t ⌝ }
+    ensures { λ r. ⌜ Reports a pixels orders format r ⌝ }
 {
-    let a = r.answer;
-    let s = r.state;
     match a {
         Answer::Done => Report {
             outcome: Outcome::Ok(pixel_format(format)),
-            pixels: s.pixels,
-            orders: s.orders,
+            pixels,
+            orders,
         },
         Answer::Refused(e) => Report {
             outcome: Outcome::Err(e),
-            pixels: s.pixels,
-            orders: s.orders,
+            pixels,
+            orders,
         },
     }
 }

@@ -36,13 +36,14 @@ unfolding answerOf linesOf formatName Answer.limited Answer.formatKey Answer.ref
     Pixels.xorPixel
     Orders.row
     Orders.rows
-    Orders.kindRow
-    Orders.kindOf
     Orders.hasHeader
-    Orders.numberIn
-    Orders.kindNumber
-    Orders.shortLength
-    Orders.lengthIn
+    Orders.rowIn
+    Orders.rowOf
+    Orders.placeIn
+    Orders.placeOf
+    Orders.ownLength
+    Orders.megaOf
+    Orders.lengthAt
     Orders.lengthOf
     Orders.headed
     Orders.headOf

@@ -7,35 +7,12 @@ use borrow.Author.Needs.{needs}
 use Rattle.rle.proofs.code.extract_run_length_mega_mega.Statement.{statement}
 use Rattle.rle.proofs.code.extract_run_length_mega_mega.Tie as tie
 
-u16-from-requires : tie.Need-u16-from-requires
-u16-from-requires c κs = search needs
-
-enum-known-read : tie.Need-enum-known-read
-enum-known-read c = search needs
-
-enum-known-read-2 : tie.Need-enum-known-read-2
-enum-known-read-2 c = search needs
-
-add-t11 : tie.Need-add-t11
-add-t11 c =
-    let t = c .before .before .before .before in
-    let s = t .before .before in
-    let is = u16-is (s .args .src .now) (s .args .pos) _ _ (t .u16-from .ensures) (c .before .before .read2 .given .1) in
-    omega (arith, is .0)
-
 returns : tie.Need-returns
 returns c =
     let t = c .before .before .before .before in
     let s = t .before .before in
     long-zero (s .args .src .now) (s .args .pos) (s .pre) _
     (u16-is (s .args .src .now) (s .args .pos) _ _ (t .u16-from .ensures) (c .before .before .read2 .given .1)) (c .if1 .taken)
-
-add-t12 : tie.Need-add-t12
-add-t12 c =
-    let t = c .before .before .before .before in
-    let s = t .before .before in
-    let is = u16-is (s .args .src .now) (s .args .pos) _ _ (t .u16-from .ensures) (c .before .before .read2 .given .1) in
-    omega (arith, is .0)
 
 returns-2 : tie.Need-returns-2
 returns-2 c =
@@ -56,4 +33,5 @@ returns-3 c =
 pub extract-run-length-mega-mega-spec : {M : Type 1} → statement M
 extract-run-length-mega-mega-spec =
     tie.close
-    (tie.spec u16-from-requires enum-known-read enum-known-read-2 add-t11 returns add-t12 returns-2 returns-3)
+    (tie.spec (λ c κs. search needs) (λ c. search needs) (λ c. search needs) (λ c. search needs) returns (λ c. search needs) returns-2
+    returns-3)

@@ -1,62 +1,38 @@
--- `bg_run` meets its contract: the pixels do not fit, or they are painted. Assumes nothing.
+-- `bg_run` meets its contract: the run is painted as planned. Assumes nothing.
 use mathlib.Core.Path.{refl}
-use Rattle.rle.specs.Decode.{bgRun}
-use Rattle.rle.proofs.Orders.{did-as, paintable, fg-row, bg-row, did-paint, insert-inks, large-order}
+use native.Mathlib.Omega.{arith}
+use Rattle.rle.specs.Orders.{BgRun}
+use Rattle.rle.specs.Plan.{countsOf, kindInk, leavesInsert, foregroundBy}
+use Rattle.rle.proofs.Orders.{within, fits, did-finished, paintable, fg-row, bg-row, insert-inks}
 use borrow.Author.Needs.{needs}
 use Rattle.rle.proofs.order.bg_run.Statement.{statement}
 use Rattle.rle.proofs.order.bg_run.Tie as tie
 
-sub-if1 : tie.Need-sub-if1
-sub-if1 c = search needs
+paint-bg-run-requires : tie.Need-paint-bg-run-requires
+unfolding countsOf
+paint-bg-run-requires c κs =
+    let t = c .before .before .before in
+    let s = t .before .before .before .before in
+    let w = within _ _ (s .pre .0) (s .pre .1 .0) BgRun _ 0 (s .pre .1 .1 .0) (t .plan-run .result) (t .plan-run .ensures) in
+    (rw (c .before .fg-ink .ensures) (paintable (s .args .dst .now) _ _ (s .pre .0) (s .pre .1 .0) (w .pixels) (fg-row (s .pre .1 .0)) (s .pre .1 .0 .foreground)), rw (c .bg-ink .ensures) (paintable (s .args .dst .now) _ _ (s .pre .0) (s .pre .1 .0) (w .pixels) (bg-row (s .pre .1 .0)) (s .pre .0 .black)))
 
-too-large-requires : tie.Need-too-large-requires
-too-large-requires c κs = search needs
+finished-requires : tie.Need-finished-requires
+unfolding countsOf
+finished-requires c κs =
+    let t = c .before .before .before .before .before .before in
+    let s = t .before .before .before .before in
+    fits _ _ (s .pre .0) (s .pre .1 .0) BgRun _ 0 (s .pre .1 .1 .0) (t .plan-run .result) (t .plan-run .ensures) (omega arith)
 
 returns : tie.Need-returns
-unfolding bgRun
-returns c =
-    let s = c .before .before .before .before .before .before in
-    rw (c .too-large .ensures)
-    (did-as refl (large-order (s .args .f) (s .args .src .now) (s .args .dst .now) (s .args .s) (s .pre .0) (s .pre .1 .0) (s .args .n) (search needs) _ _))
-
-fg-ink-requires : tie.Need-fg-ink-requires
-fg-ink-requires c κs = search needs
-
-bg-ink-requires : tie.Need-bg-ink-requires
-bg-ink-requires c κs = search needs
-
-paint-bg-run-requires : tie.Need-paint-bg-run-requires
-paint-bg-run-requires c κs =
-    let s = c .before .before .before .before .before .before .before .before in
-    let a = s .args in (
-      rw (c .before .fg-ink .ensures) (paintable (a .dst .now) (a .n) _ (s .pre .0) (s .pre .1 .0) (search needs) (fg-row (s .pre .1 .0)) (s .pre .1 .0 .foreground)),
-      (rw (c .bg-ink .ensures) (paintable (a .dst .now) (a .n) _ (s .pre .0) (s .pre .1 .0) (search needs) (bg-row (s .pre .1 .0)) (s .pre .0 .black)), s .pre .1 .1 .0),
-    )
-
-completed-requires : tie.Need-completed-requires
-completed-requires c κs = search needs
-
-same-length : tie.Need-same-length
-same-length c = search needs
-
-returns-2 : tie.Need-returns-2
-unfolding bgRun
-returns-2 c =
-    let s = c .before .before .before .before .before .before .before .before .before .before .before .before in
-    rw (c .completed .ensures)
-    (did-as refl (did-paint _ _ _ _ (s .pre .0) (s .pre .1 .0) _ _ _ (s .args .n) (s .pre .1 .1 .0) (search needs)
-    (insert-inks (s .args .f) (s .args .s) (c .before .before .before .before .before .fg-ink .ensures) (c .before .before .before .before .bg-ink .ensures) _ (c .before .before .before .paint-bg-run .ensures))))
+unfolding countsOf foregroundBy leavesInsert kindInk
+returns c = λ src place.
+    let t = c .before .before .before .before .before .before .before in
+    let s = t .before .before .before .before in
+    did-finished _ src _ _ _ (s .pre .0) (s .pre .1 .0) place BgRun _ (s .pre .1 .1 .0) (t .plan-run .result) (t .plan-run .ensures) (record { state = refl; insert = refl }) (c .finished .ensures)
+    (insert-inks (s .args .f) (s .args .s) (c .before .before .before .before .before .fg-ink .ensures) (c .before .before .before .before .bg-ink .ensures) _ (c .before .before .before .paint-bg-run .ensures))
 
 pub bg-run-spec : {M : Type 1} → statement M
 bg-run-spec =
     tie.close
-    (tie.spec
-    sub-if1
-    too-large-requires
-    returns
-    fg-ink-requires
-    bg-ink-requires
-    paint-bg-run-requires
-    completed-requires
-    same-length
-    returns-2)
+    (tie.spec (λ c. search needs) (λ c κs. search needs) (λ c κs. search needs) (λ c κs. search needs) paint-bg-run-requires
+    finished-requires (λ c. search needs) returns)

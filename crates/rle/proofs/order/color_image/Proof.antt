@@ -1,64 +1,38 @@
--- `color_image` meets its contract: its pixels are missing, or are copied. Assumes nothing.
-use native.Mathlib.Nat.{mul-le-mul}
+-- `color_image` meets its contract: the image is painted as planned, with the pixels of the stream. Assumes nothing.
 use mathlib.Core.Path.{refl}
-use Rattle.rle.specs.Decode.{colorImage}
-use Rattle.rle.proofs.Orders.{missing, sound-at, did-image}
 use native.Mathlib.Omega.{arith}
+use Rattle.rle.specs.Orders.{ColorImage}
+use Rattle.rle.specs.Plan.{countsOf, kindInk, leavesInsert, foregroundBy}
+use Rattle.rle.proofs.Orders.{within, fits, image-operands, did-finished, has-place}
 use borrow.Author.Needs.{needs}
 use Rattle.rle.proofs.order.color_image.Statement.{statement}
 use Rattle.rle.proofs.order.color_image.Tie as tie
 
-mul-size : tie.Need-mul-size
-mul-size c =
-    let s = c .before .before .before in
-    omega (arith, mul-le-mul (s .pre .1 .1 .1) (s .pre .0 .high))
+paint-image-requires : tie.Need-paint-image-requires
+unfolding countsOf
+paint-image-requires c κs =
+    let t = c .before in
+    let s = t .before .before .before .before .before .before in
+    let w = within _ _ (s .pre .0) (s .pre .1 .0) ColorImage _ _ (s .pre .1 .1 .1 .0) (t .plan-color-image .result) (t .plan-color-image .ensures) in
+    (has-place (s .args .dst .now) _ (s .pre .0) (s .pre .1 .0) (w .pixels), omega (arith, image-operands _ (t .plan-color-image .result) _ (s .args .n) _ (t .plan-color-image .ensures)))
 
-sub-left : tie.Need-sub-left
-sub-left c = search needs
-
-too-short-requires : tie.Need-too-short-requires
-too-short-requires c κs = search needs
+finished-requires : tie.Need-finished-requires
+unfolding countsOf
+finished-requires c κs =
+    let t = c .before .before .before .before in
+    let s = t .before .before .before .before .before .before in
+    fits _ _ (s .pre .0) (s .pre .1 .0) ColorImage _ _ (s .pre .1 .1 .1 .0) (t .plan-color-image .result) (t .plan-color-image .ensures) (omega arith)
 
 returns : tie.Need-returns
-unfolding colorImage
+unfolding countsOf foregroundBy leavesInsert kindInk
 returns c =
-    let s = c .before .before .before .before .before in
-    rw (c .too-short .ensures) (missing _ _ _ _ (s .pre .1 .0) _ _ (c .before .if1 .taken) refl)
-
-add-moved : tie.Need-add-moved
-add-moved c = search needs
-
-moved-requires : tie.Need-moved-requires
-moved-requires c κs = search needs
-
-image-pixels-requires : tie.Need-image-pixels-requires
-image-pixels-requires c κs =
-    let s = c .before .before .before .before .before .before in (
-      s .pre .0,
-      (
-        rw (c .moved .ensures) (sound-at _ _ (s .pre .1 .0) (search needs) (s .pre .1 .0 .foreground)),
-        (s .pre .1 .1 .0, s .pre .1 .1 .1, search needs),
-      ),
-    )
-
-same-length : tie.Need-same-length
-same-length c = search needs
-
-returns-2 : tie.Need-returns-2
-returns-2 c =
-    let s = c .before .before .before .before .before .before .before .before .before in
-    did-image _ (s .args .src .now) (s .args .dst .now) (s .args .s) (s .pre .1 .0) (s .args .n) (search needs) (c .before .before .before .moved .ensures) (c .before .before .image-pixels .ensures)
+    let t = c .before .before .before .before .before in
+    let s = t .before .before .before .before .before .before in
+    did-finished _ _ _ _ _ (s .pre .0) (s .pre .1 .0) (s .pre .1 .1 .0) ColorImage _ (s .pre .1 .1 .1 .0) (t .plan-color-image .result) (t .plan-color-image .ensures) (record { state = refl; insert = refl }) (c .finished .ensures)
+    (c .before .before .before .paint-image .ensures _)
 
 pub color-image-spec : {M : Type 1} → statement M
 color-image-spec =
     tie.close
-    (tie.spec
-    mul-size
-    sub-left
-    too-short-requires
-    returns
-    add-moved
-    moved-requires
-    image-pixels-requires
-    same-length
-    returns-2)
+    (tie.spec (λ c. search needs) (λ c. search needs) (λ c κs. search needs) paint-image-requires finished-requires (λ c. search needs)
+    returns)

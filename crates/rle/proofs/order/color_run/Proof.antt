@@ -1,69 +1,38 @@
--- `color_run` meets its contract: its pixel is missing, or is read and repeated. Assumes nothing.
-use mathlib.Core.Path.{refl, ap}
-use lib.ListN.{drop}
-use Rattle.rle.specs.declared.paint.Ink.{Ink as CodeInk}
-use Rattle.rle.specs.Decode.{colorRun}
-use Rattle.rle.specs.Contracts.{inkOf}
-use Rattle.rle.proofs.Orders.{missing, sound-at, read-of-depth, did-color-run}
+-- `color_run` meets its contract: the run is painted as planned, in the color that it reads. Assumes nothing.
+use mathlib.Core.Path.{refl}
+use native.Mathlib.Omega.{arith}
+use Rattle.rle.specs.Orders.{ColorRun}
+use Rattle.rle.specs.Plan.{countsOf, kindInk, leavesInsert, foregroundBy}
+use Rattle.rle.proofs.Orders.{within, fits, operands-read, did-finished, has-place}
 use borrow.Author.Needs.{needs}
 use Rattle.rle.proofs.order.color_run.Statement.{statement}
 use Rattle.rle.proofs.order.color_run.Tie as tie
 
-sub-left : tie.Need-sub-left
-sub-left c = search needs
+paint-color-run-requires : tie.Need-paint-color-run-requires
+unfolding countsOf
+paint-color-run-requires c κs =
+    let t = c .before in
+    let s = t .before .before .before .before .before .before in
+    let w = within _ _ (s .pre .0) (s .pre .1 .0) ColorRun _ _ (s .pre .1 .1 .1 .0) (t .plan-pixel-run .result) (t .plan-pixel-run .ensures) in
+    (has-place (s .args .dst .now) _ (s .pre .0) (s .pre .1 .0) (w .pixels), (λ h. omega (arith, operands-read _ (t .plan-pixel-run .result) _ _ (t .plan-pixel-run .ensures) h), s .pre .0 .wide))
 
-too-short-requires : tie.Need-too-short-requires
-too-short-requires c κs = search needs
+finished-requires : tie.Need-finished-requires
+unfolding countsOf
+finished-requires c κs =
+    let t = c .before .before .before .before in
+    let s = t .before .before .before .before .before .before in
+    fits _ _ (s .pre .0) (s .pre .1 .0) ColorRun _ _ (s .pre .1 .1 .1 .0) (t .plan-pixel-run .result) (t .plan-pixel-run .ensures) (omega arith)
 
 returns : tie.Need-returns
-unfolding colorRun
+unfolding countsOf foregroundBy leavesInsert kindInk
 returns c =
-    let s = c .before .before .before .before in
-    rw (c .too-short .ensures) (missing _ _ _ _ (s .pre .1 .0) _ _ (c .before .if1 .taken) refl)
-
-read-pixel-requires : tie.Need-read-pixel-requires
-read-pixel-requires c κs = search needs
-
-add-moved : tie.Need-add-moved
-add-moved c = search needs
-
-moved-requires : tie.Need-moved-requires
-moved-requires c κs = search needs
-
-solid-requires : tie.Need-solid-requires
-solid-requires c κs = search needs
-
-uniform-run-requires : tie.Need-uniform-run-requires
-uniform-run-requires c κs =
-    let s = c .before .before .before .before .before .before .before in
-    let p = read-of-depth (s .pre .0) (drop (s .args .s .pos) (s .args .src .now)) (c .before .before .before .read-pixel .ensures) in (
-      s .pre .0,
-      (
-        rw (c .before .moved .ensures) (sound-at _ _ (s .pre .1 .0) (search needs) (s .pre .1 .0 .foreground)),
-        (s .pre .1 .1 .0, s .pre .1 .1 .1, rw (c .solid .ensures) (search needs), rw (c .solid .ensures) p),
-      ),
-    )
-
-same-length : tie.Need-same-length
-same-length c = search needs
-
-returns-2 : tie.Need-returns-2
-returns-2 c =
-    let s = c .before .before .before .before .before .before .before .before .before .before in
-    did-color-run _ (s .args .src .now) (s .args .dst .now) (s .args .s) (s .pre .1 .0) (s .args .n) (search needs) (c .before .before .before .before .moved .ensures) (c .before .before .before .before .before .before .read-pixel .ensures)
-    (ap (λ (x : CodeInk). inkOf x) (c .before .before .before .solid .ensures)) (c .before .before .uniform-run .ensures)
+    let t = c .before .before .before .before .before in
+    let s = t .before .before .before .before .before .before in
+    did-finished _ _ _ _ _ (s .pre .0) (s .pre .1 .0) (s .pre .1 .1 .0) ColorRun _ (s .pre .1 .1 .1 .0) (t .plan-pixel-run .result) (t .plan-pixel-run .ensures) (record { state = refl; insert = refl }) (c .finished .ensures)
+    (c .before .before .before .paint-color-run .ensures)
 
 pub color-run-spec : {M : Type 1} → statement M
 color-run-spec =
     tie.close
-    (tie.spec
-    sub-left
-    too-short-requires
-    returns
-    read-pixel-requires
-    add-moved
-    moved-requires
-    solid-requires
-    uniform-run-requires
-    same-length
-    returns-2)
+    (tie.spec (λ c. search needs) (λ c. search needs) (λ c κs. search needs) paint-color-run-requires finished-requires
+    (λ c. search needs) returns)

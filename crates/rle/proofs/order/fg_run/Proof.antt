@@ -1,24 +1,39 @@
--- `fg_run` meets its contract: a uniform run in the foreground's ink. Assumes nothing.
-use Rattle.rle.proofs.Orders.{fg-row, fg-run-is, did-as}
+-- `fg_run` meets its contract: the run is painted as planned. Assumes nothing.
+use mathlib.Core.Path.{refl}
+use native.Mathlib.Omega.{arith}
+use Rattle.rle.specs.Orders.{FgRun}
+use Rattle.rle.specs.Plan.{countsOf, kindInk, leavesInsert, foregroundBy}
+use Rattle.rle.proofs.Painting.{painted-as}
+use Rattle.rle.proofs.Orders.{within, fits, did-finished, paintable, fg-row, fg-is}
 use borrow.Author.Needs.{needs}
 use Rattle.rle.proofs.order.fg_run.Statement.{statement}
 use Rattle.rle.proofs.order.fg_run.Tie as tie
 
-fg-ink-requires : tie.Need-fg-ink-requires
-fg-ink-requires c κs = search needs
+paint-fg-run-requires : tie.Need-paint-fg-run-requires
+unfolding countsOf
+paint-fg-run-requires c κs =
+    let t = c .before .before in
+    let s = t .before .before .before .before in
+    let w = within _ _ (s .pre .0) (s .pre .1 .0) FgRun _ 0 (s .pre .1 .1 .0) (t .plan-run .result) (t .plan-run .ensures) in
+    rw (c .fg-ink .ensures) (paintable (s .args .dst .now) _ _ (s .pre .0) (s .pre .1 .0) (w .pixels) (fg-row (s .pre .1 .0)) (s .pre .1 .0 .foreground))
 
-uniform-run-requires : tie.Need-uniform-run-requires
-uniform-run-requires c κs =
-    let s = c .before .before .before .before in
-    (s .pre .0, (s .pre .1 .0, (s .pre .1 .1 .0, s .pre .1 .1 .1, rw (c .fg-ink .ensures) (fg-row (s .pre .1 .0)), rw (c .fg-ink .ensures) (s .pre .1 .0 .foreground))))
-
-same-length : tie.Need-same-length
-same-length c = search needs
+finished-requires : tie.Need-finished-requires
+unfolding countsOf
+finished-requires c κs =
+    let t = c .before .before .before .before .before in
+    let s = t .before .before .before .before in
+    fits _ _ (s .pre .0) (s .pre .1 .0) FgRun _ 0 (s .pre .1 .1 .0) (t .plan-run .result) (t .plan-run .ensures) (omega arith)
 
 returns : tie.Need-returns
-returns c =
-    let s = c .before .before .before .before .before .before .before in
-    did-as (fg-run-is _ (s .args .n) _ _ _ (s .args .s) (c .before .before .before .fg-ink .ensures)) (c .before .before .uniform-run .ensures)
+unfolding countsOf foregroundBy leavesInsert kindInk
+returns c = λ src place.
+    let t = c .before .before .before .before .before .before in
+    let s = t .before .before .before .before in
+    did-finished _ src _ _ _ (s .pre .0) (s .pre .1 .0) place FgRun _ (s .pre .1 .1 .0) (t .plan-run .result) (t .plan-run .ensures) (record { state = refl; insert = refl }) (c .finished .ensures)
+    (painted-as (λ _ _. fg-is (s .args .s) refl (c .before .before .before .before .fg-ink .ensures)) (c .before .before .before .paint-fg-run .ensures))
 
 pub fg-run-spec : {M : Type 1} → statement M
-fg-run-spec = tie.close (tie.spec fg-ink-requires uniform-run-requires same-length returns)
+fg-run-spec =
+    tie.close
+    (tie.spec (λ c. search needs) (λ c κs. search needs) (λ c κs. search needs) paint-fg-run-requires finished-requires
+    (λ c. search needs) returns)

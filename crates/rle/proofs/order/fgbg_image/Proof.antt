@@ -1,124 +1,43 @@
--- `fgbg_image` meets its contract. The invariant: what the masks left paint from here is what the image paints from its start. Assumes nothing.
-use mathlib.Core.Path.{_∙_}
-use Rattle.rle.specs.Contracts.{frameOf}
-use Rattle.rle.proofs.Orders.{sound-at}
-use Rattle.rle.proofs.FgBg.{Mid, mid-start, mid-short, mid-stop, mid-next, mid-done}
+-- `fgbg_image` meets its contract: the pixels that the plan says are painted, and it ends as planned. Assumes nothing.
+use Prim.Native.Nat.{ℕ, _≤_}
 use native.Mathlib.Omega.{arith}
+use lib.Dec.{eqb}
+use Rattle.rle.specs.Contracts.{imageKind}
+use Rattle.picture.proofs.Tests.{by-test}
+use Rattle.rle.proofs.Orders.{fits, fits-with, did-finished, image-leaves, image-inks, image-paintable}
 use borrow.Author.Needs.{needs}
 use Rattle.rle.proofs.order.fgbg_image.Statement.{statement}
 use Rattle.rle.proofs.order.fgbg_image.Tie as tie
 
-abbrev Inv-loop : tie.InvT-loop
-Inv-loop src dst₀ f n t₀ left₀ dst t left = Mid (frameOf f) src dst₀ t₀ n dst t left
+add-paint-masks : tie.Need-add-paint-masks
+add-paint-masks c =
+    let s = c .before .before .before .before .before .before .before .before .before in
+    let few = by-test (λ (m : ℕ). m ≤ 3) (eqb (s .args .kind) 6) {b = 0} (λ _. s .pre .0 .high) (λ _. omega arith) in
+    omega (arith, few, c .before .foreground-size .ensures)
 
-abbrev μ-loop : tie.MeasureT-loop
-μ-loop src dst₀ f n t₀ left₀ dst t left = left
+paint-masks-requires : tie.Need-paint-masks-requires
+paint-masks-requires c κs =
+    let t = c .before .before .before .before .before .before in
+    let s = t .before .before .before .before .before .before in
+    image-paintable (s .args .f) (s .args .src .now) (s .args .dst .now) (s .args .s) (eqb (s .args .kind) 6) (c .before .before .before .before .before .image-foreground .ensures) (c .before .fg-ink .ensures) (c .bg-ink .ensures) (c .before .before .before .before .foreground-size .ensures)
+    (s .pre .0) (s .pre .1 .0) (s .args .n) (s .pre .1 .1 .1 .0) (t .plan-fgbg-image .result) (t .plan-fgbg-image .ensures)
 
-loop-holds : tie.Need-loop-holds Inv-loop μ-loop
-loop-holds c =
-    let s = c .before .before in
-    mid-start _ _ _ _ _ (s .pre .1 .0) (s .pre .1 .1 .0)
+finished-requires : tie.Need-finished-requires
+finished-requires c κs =
+    let t = c .before .before .before .before .before .before .before .before .before in
+    let s = t .before .before .before .before .before .before in
+    fits-with (c .before .before .before .before .before .before .before .before .image-foreground .ensures) (fits _ (s .args .s) (s .pre .0) (s .pre .1 .0) (imageKind (s .args .kind)) _ _ (s .pre .1 .1 .1 .0) (t .plan-fgbg-image .result) (t .plan-fgbg-image .ensures) (omega arith))
 
-too-short-requires : tie.Need-too-short-requires Inv-loop μ-loop
-too-short-requires c κs = tt
-
-same-length : tie.Need-same-length Inv-loop μ-loop
-same-length c = c .before .before .before .loop .inv .same
-
-returns : tie.Need-returns Inv-loop μ-loop
+returns : tie.Need-returns
 returns c =
-    let l = c .before .before .before .loop in
-    mid-short _ _ _ _ _ _ _ _ (l .inv) (c .before .if1 .taken) (c .before .before .loop-test .taken) (c .too-short .ensures)
-
-at-most-8-requires : tie.Need-at-most-8-requires Inv-loop μ-loop
-at-most-8-requires c κs = tt
-
-add-moved : tie.Need-add-moved Inv-loop μ-loop
-add-moved c =
-    omega (arith, c .before .before .if1 .left, c .before .before .before .before .before .before .before .good)
-
-moved-requires : tie.Need-moved-requires Inv-loop μ-loop
-moved-requires c κs = tt
-
-shared-slice-read-one-mask : tie.Need-shared-slice-read-one-mask Inv-loop μ-loop
-shared-slice-read-one-mask c = c .before .before .before .before .if1 .left
-
-one-mask-requires : tie.Need-one-mask-requires Inv-loop μ-loop
-one-mask-requires c κs =
-    let l = c .before .before .before .before .before .before .loop in
-    let s = c .before .before .before .before .before .before .before .before .before in (
-      rw (l .inv .same) (s .pre .0),
-      (
-        rw (c .before .moved .ensures) (sound-at _ _ (l .inv .sound) (omega (arith, c .before .before .before .before .if1 .left)) (l .inv .sound .foreground)),
-        omega (arith, c .before .before .before .at-most-8 .ensures),
-      ),
-    )
-
-enum-told : tie.Need-enum-told Inv-loop μ-loop
-enum-told c = search needs
-
-same-length-2 : tie.Need-same-length-2 Inv-loop μ-loop
-same-length-2 c =
-    c .before .before .before .before .one-mask .kept .1 .0 ∙ c .before .before .before .before .before .before .before .before .before .before .before .loop .inv .same
-
-returns-2 : tie.Need-returns-2 Inv-loop μ-loop
-returns-2 c =
-    let l = c .before .before .before .before .before .before .before .before .before .before .before .loop in
-    mid-stop _ _ _ _ _ _ _ _ (l .inv) _ _ _ _ (c .before .before .before .before .before .before .moved .ensures) (c .before .before .before .before .before .before .before .before .at-most-8 .ensures) (c .before .before .before .before .before .before .before .before .before .if1 .left) (c .before .before .before .before .before .before .before .before .before .before .loop-test .taken) (c .before .before .before .before .one-mask .ensures)
-    _ (c .enum-told .given .1)
-
-enum-told-2 : tie.Need-enum-told-2 Inv-loop μ-loop
-enum-told-2 c = search needs
-
-sub-left : tie.Need-sub-left Inv-loop μ-loop
-sub-left c =
-    omega (arith, c .before .before .before .before .before .before .before .before .before .at-most-8 .ensures)
-
-loop-less : tie.Need-loop-less Inv-loop μ-loop
-loop-less c =
-    omega (arith, c .before .before .before .before .before .before .before .before .before .at-most-8 .ensures, c .before .before .before .before .before .before .before .before .before .before .before .loop-test .taken)
-
-loop-again : tie.Need-loop-again Inv-loop μ-loop
-loop-again c =
-    let l = c .before .before .before .before .before .before .before .before .before .before .before .before .loop in
-    mid-next _ _ _ _ _ _ _ _ (l .inv) _ _ _ _ (c .before .before .before .before .before .before .before .moved .ensures) (c .before .before .before .before .before .before .before .before .before .at-most-8 .ensures) (c .before .before .before .before .before .before .before .before .before .before .if1 .left) (c .before .before .before .before .before .before .before .before .before .before .before .loop-test .taken) (c .before .before .before .before .before .one-mask .ensures)
-    (c .before .enum-told2 .given .1) (c .before .before .before .before .before .one-mask .kept .1 .0)
-
-completed-requires : tie.Need-completed-requires Inv-loop μ-loop
-completed-requires c κs =
-    let l = c .before .loop in
-    (omega (arith, l .inv .sound .within, c .before .before .before .before .pre .0 .few), l .inv .sound .counted)
-
-same-length-3 : tie.Need-same-length-3 Inv-loop μ-loop
-same-length-3 c = c .before .before .loop .inv .same
-
-returns-3 : tie.Need-returns-3 Inv-loop μ-loop
-returns-3 c =
-    let l = c .before .before .loop in
-    mid-done _ _ _ _ _ _ _ _ (l .inv) (omega (arith, c .before .loop-test .left)) (c .completed .ensures)
+    let t = c .before .before .before .before .before .before .before .before .before .before in
+    let s = t .before .before .before .before .before .before in
+    let state = c .before .before .before .before .before .before .before .before .before .image-foreground .ensures in
+    did-finished _ _ _ _ _ (s .pre .0) (s .pre .1 .0) (s .pre .1 .1 .0) (imageKind (s .args .kind)) _ (s .pre .1 .1 .1 .0) (t .plan-fgbg-image .result) (t .plan-fgbg-image .ensures) (record { state = state; insert = image-leaves (eqb (s .args .kind) 6) }) (c .finished .ensures)
+    (image-inks (s .args .f) (s .args .src .now) (s .args .dst .now) (s .args .s) (eqb (s .args .kind) 6) state (c .before .before .before .before .before .fg-ink .ensures) (c .before .before .before .before .bg-ink .ensures) (c .before .before .before .before .before .before .before .before .foreground-size .ensures) _ _ (c .before .before .before .paint-masks .ensures))
 
 pub fgbg-image-spec : {M : Type 1} → statement M
 fgbg-image-spec =
     tie.close
-    (tie.spec
-    Inv-loop
-    μ-loop
-    loop-holds
-    too-short-requires
-    same-length
-    returns
-    at-most-8-requires
-    add-moved
-    moved-requires
-    shared-slice-read-one-mask
-    one-mask-requires
-    enum-told
-    same-length-2
-    returns-2
-    enum-told-2
-    sub-left
-    loop-less
-    loop-again
-    completed-requires
-    same-length-3
-    returns-3)
+    (tie.spec (λ c. search needs) (λ c. search needs) (λ c κs. search needs) (λ c κs. search needs) (λ c κs. search needs)
+    add-paint-masks (λ c κs. search needs) (λ c κs. search needs) paint-masks-requires finished-requires (λ c. search needs) returns)

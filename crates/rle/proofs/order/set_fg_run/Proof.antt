@@ -1,65 +1,41 @@
--- `set_fg_run` meets its contract: the new foreground is missing, or is read and the run painted with it. Assumes nothing.
+-- `set_fg_run` meets its contract: the run is painted as planned, with the foreground that it reads. Assumes nothing.
 use mathlib.Core.Path.{refl}
-use lib.ListN.{drop}
-use Rattle.rle.specs.Decode.{fgRun, setFgRun}
-use Rattle.rle.proofs.Orders.{missing, sound-at, read-of-depth, did-set}
+use native.Mathlib.Omega.{arith}
+use Rattle.rle.specs.Orders.{SetFgRun}
+use Rattle.rle.specs.Plan.{countsOf, kindInk, leavesInsert, foregroundBy}
+use Rattle.rle.proofs.Painting.{painted-as}
+use Rattle.rle.proofs.Orders.{within, fits, fits-with, did-finished, paintable, fg-row, fg-is, new-of-depth}
 use borrow.Author.Needs.{needs}
 use Rattle.rle.proofs.order.set_fg_run.Statement.{statement}
 use Rattle.rle.proofs.order.set_fg_run.Tie as tie
 
-sub-left : tie.Need-sub-left
-sub-left c = search needs
+paint-fg-run-requires : tie.Need-paint-fg-run-requires
+unfolding countsOf
+paint-fg-run-requires c κs =
+    let t = c .before .before .before in
+    let s = t .before .before .before .before .before .before in
+    let w = within _ _ (s .pre .0) (s .pre .1 .0) SetFgRun _ _ (s .pre .1 .1 .1 .0) (t .plan-pixel-run .result) (t .plan-pixel-run .ensures) in
+    rw (c .fg-ink .ensures, c .before .before .new-foreground .ensures)
+    (paintable (s .args .dst .now) _ _ (s .pre .0) (s .pre .1 .0) (w .pixels) (fg-row (s .pre .1 .0)) (new-of-depth (s .pre .0) (s .pre .1 .0 .foreground) _))
 
-too-short-requires : tie.Need-too-short-requires
-too-short-requires c κs = search needs
+finished-requires : tie.Need-finished-requires
+unfolding countsOf
+finished-requires c κs =
+    let t = c .before .before .before .before .before .before in
+    let s = t .before .before .before .before .before .before in
+    fits-with (c .before .before .before .before .before .new-foreground .ensures) (fits _ (s .args .s) (s .pre .0) (s .pre .1 .0) SetFgRun _ _ (s .pre .1 .1 .1 .0) (t .plan-pixel-run .result) (t .plan-pixel-run .ensures) (omega arith))
 
 returns : tie.Need-returns
-unfolding setFgRun
+unfolding countsOf foregroundBy leavesInsert kindInk
 returns c =
-    let s = c .before .before .before .before in
-    rw (c .too-short .ensures) (missing _ _ _ _ (s .pre .1 .0) _ _ (c .before .if1 .taken) refl)
-
-read-pixel-requires : tie.Need-read-pixel-requires
-read-pixel-requires c κs = search needs
-
-add-with-foreground : tie.Need-add-with-foreground
-add-with-foreground c = search needs
-
-with-foreground-requires : tie.Need-with-foreground-requires
-with-foreground-requires c κs = search needs
-
-fg-run-requires : tie.Need-fg-run-requires
-fg-run-requires c κs =
-    let s = c .before .before .before .before .before .before in (
-      s .pre .0,
-      (
-        rw (c .with-foreground .ensures)
-            (sound-at _ _ (s .pre .1 .0) (search needs)
-            (read-of-depth (s .pre .0) (drop (s .args .s .pos) (s .args .src .now)) (c .before .before .read-pixel .ensures))),
-        s .pre .1 .1,
-      ),
-    )
-
-same-length : tie.Need-same-length
-same-length c = search needs
-
-returns-2 : tie.Need-returns-2
-unfolding setFgRun
-returns-2 c =
-    let s = c .before .before .before .before .before .before .before .before .before in
-    did-set _ (s .args .src .now) (s .args .dst .now) (s .args .s) (s .pre .1 .0) (fgRun _ (s .args .n)) (search needs) (c .before .before .before .with-foreground .ensures) (c .before .before .before .before .before .read-pixel .ensures)
-    (c .before .before .fg-run .ensures)
+    let t = c .before .before .before .before .before .before .before in
+    let s = t .before .before .before .before .before .before in
+    let new = c .before .before .before .before .before .before .new-foreground .ensures in
+    did-finished _ _ _ _ _ (s .pre .0) (s .pre .1 .0) (s .pre .1 .1 .0) SetFgRun _ (s .pre .1 .1 .1 .0) (t .plan-pixel-run .result) (t .plan-pixel-run .ensures) (record { state = new; insert = refl }) (c .finished .ensures)
+    (painted-as (λ _ _. fg-is (s .args .s) new (c .before .before .before .before .fg-ink .ensures)) (c .before .before .before .paint-fg-run .ensures))
 
 pub set-fg-run-spec : {M : Type 1} → statement M
 set-fg-run-spec =
     tie.close
-    (tie.spec
-    sub-left
-    too-short-requires
-    returns
-    read-pixel-requires
-    add-with-foreground
-    with-foreground-requires
-    fg-run-requires
-    same-length
-    returns-2)
+    (tie.spec (λ c. search needs) (λ c. search needs) (λ c κs. search needs) (λ c κs. search needs) (λ c κs. search needs)
+    paint-fg-run-requires finished-requires (λ c. search needs) returns)

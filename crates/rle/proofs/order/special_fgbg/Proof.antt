@@ -1,62 +1,46 @@
--- `special_fgbg` meets its contract: the pixels do not fit, or they are painted. Assumes nothing.
-use mathlib.Core.Path.{refl}
-use Rattle.rle.specs.Decode.{specialFgBg}
-use Rattle.rle.proofs.Orders.{did-as, paintable, fg-row, bg-row, did-paint, mask-inks, large-order}
+-- `special_fgbg` meets its contract: the image is painted as planned, which counts alike for both masks. Assumes nothing.
+use mathlib.Core.Path.{_∙_}
+use native.Mathlib.Omega.{arith}
+use lib.Dec.{eqb}
+use Rattle.rle.specs.Orders.{SpecialFgBg1}
+use Rattle.rle.specs.Plan.{countsOf}
+use Rattle.rle.specs.Contracts.{frameOf, stateOf, specialKind}
+use Rattle.rle.proofs.Painting.{painted-as}
+use Rattle.rle.proofs.Orders.{within, fits, did-finished, paintable, fg-row, bg-row, mask-inks, special-counts, special-leaves, special-few, special-ink}
 use borrow.Author.Needs.{needs}
 use Rattle.rle.proofs.order.special_fgbg.Statement.{statement}
 use Rattle.rle.proofs.order.special_fgbg.Tie as tie
 
-sub-if1 : tie.Need-sub-if1
-sub-if1 c = search needs
-
-too-large-requires : tie.Need-too-large-requires
-too-large-requires c κs = search needs
-
-returns : tie.Need-returns
-unfolding specialFgBg
-returns c =
-    let s = c .before .before .before .before .before .before in
-    rw (c .too-large .ensures)
-    (did-as refl (large-order (s .args .f) (s .args .src .now) (s .args .dst .now) (s .args .s) (s .pre .0) (s .pre .1 .0) (s .args .n) (search needs) _ _))
-
-fg-ink-requires : tie.Need-fg-ink-requires
-fg-ink-requires c κs = search needs
-
-bg-ink-requires : tie.Need-bg-ink-requires
-bg-ink-requires c κs = search needs
-
-paint-mask-requires : tie.Need-paint-mask-requires
-paint-mask-requires c κs =
-    let s = c .before .before .before .before .before .before .before .before in
-    let a = s .args in (
-      rw (c .before .fg-ink .ensures) (paintable (a .dst .now) (a .n) _ (s .pre .0) (s .pre .1 .0) (search needs) (fg-row (s .pre .1 .0)) (s .pre .1 .0 .foreground)),
-      rw (c .bg-ink .ensures) (paintable (a .dst .now) (a .n) _ (s .pre .0) (s .pre .1 .0) (search needs) (bg-row (s .pre .1 .0)) (s .pre .0 .black)),
+paint-masks-requires : tie.Need-paint-masks-requires
+unfolding countsOf
+paint-masks-requires c κs =
+    let t = c .before .before .before .before .before in
+    let s = t .before .before .before .before in
+    let w = within _ _ (s .pre .0) (s .pre .1) SpecialFgBg1 8 0 (omega arith) (t .plan-run .result) (t .plan-run .ensures) in (
+      rw (c .before .fg-ink .ensures) (paintable (s .args .dst .now) _ _ (s .pre .0) (s .pre .1) (w .pixels) (fg-row (s .pre .1)) (s .pre .1 .foreground)),
+      (rw (c .bg-ink .ensures) (paintable (s .args .dst .now) _ _ (s .pre .0) (s .pre .1) (w .pixels) (bg-row (s .pre .1)) (s .pre .0 .black)), special-few _ _ (t .plan-run .result) (t .plan-run .ensures)),
     )
 
-completed-requires : tie.Need-completed-requires
-completed-requires c κs = search needs
+finished-requires : tie.Need-finished-requires
+unfolding countsOf
+finished-requires c κs =
+    let t = c .before .before .before .before .before .before .before .before in
+    let s = t .before .before .before .before in
+    fits _ _ (s .pre .0) (s .pre .1) SpecialFgBg1 8 0 (omega arith) (t .plan-run .result) (t .plan-run .ensures) (omega arith)
 
-same-length : tie.Need-same-length
-same-length c = search needs
-
-returns-2 : tie.Need-returns-2
-unfolding specialFgBg
-returns-2 c =
-    let s = c .before .before .before .before .before .before .before .before .before .before .before .before in
-    rw (c .completed .ensures)
-    (did-as refl (did-paint _ _ _ _ (s .pre .0) (s .pre .1 .0) _ _ _ (s .args .n) (s .pre .1 .1 .0) (search needs)
-    (mask-inks (s .args .f) (s .args .s) (c .before .before .before .before .before .fg-ink .ensures) (c .before .before .before .before .bg-ink .ensures) _ (c .before .before .before .paint-mask .ensures))))
+returns : tie.Need-returns
+returns c = λ src place.
+    let t = c .before .before .before .before .before .before .before .before .before in
+    let s = t .before .before .before .before in
+    let f = frameOf (s .args .f) in
+    let first = eqb (s .args .kind) 8 in
+    let few = special-few _ _ (t .plan-run .result) (t .plan-run .ensures) in
+    did-finished _ src _ _ _ (s .pre .0) (s .pre .1) place (specialKind (s .args .kind)) 8 (omega arith) (t .plan-run .result) (t .plan-run .ensures ∙ special-counts _ _ _ _ first) (special-leaves _ _ _ first) (c .finished .ensures)
+    (painted-as (λ j h. special-ink f (stateOf f src (s .args .dst .now) (s .args .s)) first j (omega arith))
+    (rw (c .before .before .before .before .before .before .before .before .special-mask .ensures) at
+    (mask-inks (s .args .f) (s .args .s) (c .before .before .before .before .before .fg-ink .ensures) (c .before .before .before .before .bg-ink .ensures) _ (c .before .before .before .paint-masks .ensures))))
 
 pub special-fgbg-spec : {M : Type 1} → statement M
 special-fgbg-spec =
     tie.close
-    (tie.spec
-    sub-if1
-    too-large-requires
-    returns
-    fg-ink-requires
-    bg-ink-requires
-    paint-mask-requires
-    completed-requires
-    same-length
-    returns-2)
+    (tie.spec (λ c. search needs) (λ c κs. search needs) (λ c κs. search needs) (λ c. search needs) (λ c κs. search needs) (λ c κs. search needs) paint-masks-requires finished-requires (λ c. search needs) returns)

@@ -5,18 +5,6 @@ use borrow.Author.Needs.{needs}
 use Rattle.rle.proofs.paint.paint_pixel.Statement.{statement}
 use Rattle.rle.proofs.paint.paint_pixel.Tie as tie
 
-enum-told : tie.Need-enum-told
-enum-told c = search needs
-
-mul-write-pixel : tie.Need-mul-write-pixel
-mul-write-pixel c = search needs
-
-write-pixel-requires : tie.Need-write-pixel-requires
-write-pixel-requires c κs = search needs
-
-enum-told-2 : tie.Need-enum-told-2
-enum-told-2 c = search needs
-
 sub-read-pixel : tie.Need-sub-read-pixel
 sub-read-pixel c =
     let s = c .before .before .before .before .before in
@@ -31,15 +19,6 @@ read-pixel-requires : tie.Need-read-pixel-requires
 read-pixel-requires c κs =
     let a = c .before .before .before .before .before .args in
     omega (arith, back-fits (a .d) (a .w) (a .k))
-
-mul-write-pixel-2 : tie.Need-mul-write-pixel-2
-mul-write-pixel-2 c = search needs
-
-write-pixel-requires-2 : tie.Need-write-pixel-requires-2
-write-pixel-requires-2 c κs = search needs
-
-enum-told-3 : tie.Need-enum-told-3
-enum-told-3 c = search needs
 
 sub-read-pixel-2 : tie.Need-sub-read-pixel-2
 sub-read-pixel-2 c =
@@ -56,33 +35,15 @@ read-pixel-requires-2 c κs =
     let a = c .before .before .before .before .before .args in
     omega (arith, back-fits (a .d) (a .w) (a .k))
 
-mul-write-pixel-3 : tie.Need-mul-write-pixel-3
-mul-write-pixel-3 c = search needs
-
-xor-requires : tie.Need-xor-requires
-xor-requires c κs = search needs
-
-write-pixel-requires-3 : tie.Need-write-pixel-requires-3
-write-pixel-requires-3 c κs = search needs
-
-same-length : tie.Need-same-length
-same-length c = search needs
-
 returns : tie.Need-returns
 returns c =
     let s = c .before .before .before .before .before .before .before .before in
     one-solid _ _ _ _ _ (s .args .ink) (s .pre) (c .before .before .before .before .enum-told .given .1) (c .before .before .write-pixel .ensures)
 
-same-length-2 : tie.Need-same-length-2
-same-length-2 c = search needs
-
 returns-2 : tie.Need-returns-2
 returns-2 c =
     let s = c .before .before .before .before .before .before .before .before .before .before in
     one-above _ _ _ _ _ (s .args .ink) (s .pre) _ (c .before .before .before .before .before .before .enum-told2 .given .1) (c .before .before .before .before .read-pixel .ensures) (c .before .before .write-pixel2 .ensures)
-
-same-length-3 : tie.Need-same-length-3
-same-length-3 c = search needs
 
 returns-3 : tie.Need-returns-3
 returns-3 c =
@@ -93,26 +54,7 @@ returns-3 c =
 pub paint-pixel-spec : {M : Type 1} → statement M
 paint-pixel-spec =
     tie.close
-    (tie.spec
-    enum-told
-    mul-write-pixel
-    write-pixel-requires
-    enum-told-2
-    sub-read-pixel
-    mul-read-pixel
-    read-pixel-requires
-    mul-write-pixel-2
-    write-pixel-requires-2
-    enum-told-3
-    sub-read-pixel-2
-    mul-read-pixel-2
-    read-pixel-requires-2
-    mul-write-pixel-3
-    xor-requires
-    write-pixel-requires-3
-    same-length
-    returns
-    same-length-2
-    returns-2
-    same-length-3
-    returns-3)
+    (tie.spec (λ c. search needs) (λ c. search needs) (λ c κs. search needs) (λ c. search needs) sub-read-pixel mul-read-pixel
+    read-pixel-requires (λ c. search needs) (λ c κs. search needs) (λ c. search needs) sub-read-pixel-2 mul-read-pixel-2
+    read-pixel-requires-2 (λ c. search needs) (λ c κs. search needs) (λ c κs. search needs) (λ c. search needs) returns
+    (λ c. search needs) returns-2 (λ c. search needs) returns-3)

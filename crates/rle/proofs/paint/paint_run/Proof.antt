@@ -28,12 +28,6 @@ paint-pixel-requires c κs =
     let s = c .before .before .before .before in
     part 1 _ (s .pre) (omega arith) (c .before .before .loop .inv .1)
 
-add-i : tie.Need-add-i Inv-loop μ-loop
-add-i c = omega arith
-
-loop-less : tie.Need-loop-less Inv-loop μ-loop
-loop-less c = omega arith
-
 loop-again : tie.Need-loop-again Inv-loop μ-loop
 loop-again c =
     let l = c .before .before .before .before .before .loop in (
@@ -53,14 +47,5 @@ returns c =
 pub paint-run-spec : {M : Type 1} → statement M
 paint-run-spec =
     tie.close
-    (tie.spec
-    Inv-loop
-    μ-loop
-    loop-holds
-    add-paint-pixel
-    paint-pixel-requires
-    add-i
-    loop-less
-    loop-again
-    same-length
-    returns)
+    (tie.spec Inv-loop μ-loop loop-holds add-paint-pixel paint-pixel-requires (λ c. omega arith) (λ c. omega arith) loop-again
+    same-length returns)

@@ -4,19 +4,10 @@ use borrow.Author.Needs.{needs}
 use Rattle.rle.proofs.report.pixel_format.Statement.{statement}
 use Rattle.rle.proofs.report.pixel_format.Tie as tie
 
-returns : tie.Need-returns
-returns c = search needs
-
-returns-2 : tie.Need-returns-2
-returns-2 c = search needs
-
-returns-3 : tie.Need-returns-3
-returns-3 c = search needs
-
 returns-4 : tie.Need-returns-4
 returns-4 c =
     let r = c .match .rest in
     last-format _ (c .before .pre) (r .0 .0 .1) (r .0 .1) (r .1)
 
 pub pixel-format-spec : {M : Type 1} → statement M
-pixel-format-spec = tie.close (tie.spec returns returns-2 returns-3 returns-4)
+pixel-format-spec = tie.close (tie.spec (λ c. search needs) (λ c. search needs) (λ c. search needs) returns-4)
