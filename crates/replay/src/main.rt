@@ -1,4 +1,5 @@
-// Decodes the streams of the file data/answers and compares each answer with the one that is stored beside it.
+// Decodes the streams of the file data/answers, counts their orders without a target, and compares each answer with the one that is
+// stored beside it.
 //
 // A record: width, height, bpp, then the stored answer: format (0: none), refusal (0: none), its two values, pixels, orders, and the
 // checksum of the target, which is preset to 0x55 and as long as the picture (64 bytes where there is no picture); then the stream's
@@ -117,10 +118,8 @@ fn same(a: Answer, b: Answer) -> bool {
         && a.sum == b.sum
 }
 
-// What decoding answers, in a target that is preset first.
-fn decoded(stream: &[u8], target: &mut [u8], p: Picture) -> Answer {
-    preset(target);
-    let r = rle::decompress(stream, target, p.width, p.height, p.bpp);
+// A report as numbers, beside the checksum of a target.
+fn answer_of(r: rle::Report, sum: usize) -> Answer {
     let o = r.outcome;
     let n = picture::numbers_of(o);
     Answer {
@@ -130,8 +129,20 @@ fn decoded(stream: &[u8], target: &mut [u8], p: Picture) -> Answer {
         second: n.second,
         pixels: r.pixels,
         orders: r.orders,
-        sum: checksum(target),
+        sum,
     }
+}
+
+// What decoding answers, in a target that is preset first.
+fn decoded(stream: &[u8], target: &mut [u8], p: Picture) -> Answer {
+    preset(target);
+    let r = rle::decompress(stream, target, p.width, p.height, p.bpp);
+    answer_of(r, checksum(target))
+}
+
+// What counting the stream's orders answers, which has no target.
+fn counted(stream: &[u8], p: Picture, sum: usize) -> Answer {
+    answer_of(rle::count_orders(stream, p.width, p.height, p.bpp), sum)
 }
 
 // Whether the record at `at`, whose stream is given, is answered as stored.
@@ -143,8 +154,12 @@ fn agrees(records: &[u8], at: usize, stream: &[u8], target: &mut [u8]) -> bool
     if target.len() < n {
         return false;
     }
+    let stored = answer_at(records, at);
     let a = decoded(stream, &mut target[..n], p);
-    same(a, answer_at(records, at))
+    if !same(a, stored) {
+        return false;
+    }
+    same(counted(stream, p, stored.sum), stored)
 }
 
 // All records; one that is cut off counts as differing.
