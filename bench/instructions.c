@@ -7,7 +7,6 @@
 #include "nulambiro.h"
 #include <stdio.h>
 #include <stdlib.h>
-#include <string.h>
 #include <valgrind/callgrind.h>
 
 enum { WIDTH = 1024, HEIGHT = 1024, MANY = 64, LONGEST = 1000 };
