@@ -4,7 +4,7 @@ use Prim.Native.Nat.{ℕ, _*_}
 use lib.ListN.{length, drop}
 use Rattle.picture.specs.declared.outcome.Outcome.{Outcome}
 use Rattle.picture.specs.Pixels.{bytesOf}
-use Rattle.rle.specs.Decode.{Result}
+use Rattle.definition.specs.Decode.{Result}
 use Rattle.picture.specs.Outcomes.{refusalIn, formatIn}
 
 -- format, refusal's number and two values, pixels, orders, and two that are kept for later

@@ -1,7 +1,7 @@
 // The library for C: include/nulambiro.h declares these functions and says what they do.
 ghost use mathlib.Core.Path.{_≡_};
 ghost use lib.ListN.{length};
-ghost use Rattle.rle.specs.Decode.{resultIn};
+ghost use Rattle.definition.specs.Decode.{resultIn};
 ghost use Rattle.nulambiro.specs.Numbers.{reportOf, numbers, target};
 
 pub mod colors;

@@ -16,14 +16,14 @@ use Rattle.picture.specs.declared.outcome.RleError.{RleError}
 use Rattle.picture.specs.declared.outcome.RleError.the-variants.{BufferTooShort}
 use Rattle.picture.specs.Pixels.{bytesOf}
 use Rattle.picture.specs.Sizes.{Frame, Depth, depthOf, Checked, rejected, accept, checked, withSpace, bytes, refused, sizeOf}
-use Rattle.rle.specs.Decode.{State, decode, resultOf, ofRun, ofChecked, resultIn}
+use Rattle.definition.specs.Decode.{State, decode, resultOf, ofRun, ofChecked, resultIn}
 use Rattle.picture.specs.Outcomes.{refusalOf, depthIn}
 use Rattle.rle.specs.Report.{Agrees, Decompresses}
 use Rattle.rle.specs.Contracts.{frameOf, stateOf, Framed, Ran, runOf, refusalAfter, formatAfter, Reports, notDecoded}
 use Rattle.rle.proofs.Pixels.{length-pixelsOf, bytes-pixels}
 use Rattle.picture.proofs.Depths.{Good, depth-good}
 use Rattle.picture.proofs.Sizes.{few, sized, size-rejected}
-use Rattle.rle.proofs.Bounds.{Bytes, last, decode-bounds}
+use Rattle.definition.proofs.Bounds.{Bytes, last, decode-bounds}
 
 -- ---- refusals before the stream
 

@@ -9,8 +9,8 @@ use Rattle.rle.specs.declared.state.Stepped.{Stepped}
 use Rattle.picture.specs.Sizes.{Frame, depthOf, accept, checked, bytes, refused, sizeOf}
 use Rattle.picture.specs.Outcomes.{refusalOf, depthIn}
 use Rattle.picture.proofs.Sizes.{sized, size-rejected}
-use Rattle.rle.specs.Decode.{decode, resultOf, ofRun, ofChecked, result}
-use Rattle.rle.specs.Plan.{Progress, progressOf}
+use Rattle.definition.specs.Decode.{decode, resultOf, ofRun, ofChecked, result}
+use Rattle.definition.specs.Plan.{Progress, progressOf}
 use Rattle.rle.specs.Report.{Reported}
 use Rattle.rle.specs.Contracts.{frameOf, Walked, Reports, notDecoded}
 use Rattle.rle.proofs.Calls.{result-is}

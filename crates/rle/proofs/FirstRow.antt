@@ -9,11 +9,11 @@ use borrow.Author.Tests.{lt-ltb, le-ltb, ltb-true, ltb-false}
 use Rattle.rle.specs.declared.state.Frame.{Frame as CodeFrame}
 use Rattle.rle.specs.declared.state.State.{State as CodeState}
 use Rattle.picture.specs.Pixels.{pick}
-use Rattle.rle.specs.Orders.{headOf}
-use Rattle.rle.specs.Decode.{State, orderFrom, endFirstRow, step}
+use Rattle.definition.specs.Orders.{headOf}
+use Rattle.definition.specs.Decode.{State, orderFrom, endFirstRow, step}
 use Rattle.rle.specs.Contracts.{Sound, frameOf, stateOf, rowAbove, firstRowEnded}
 use Rattle.rle.proofs.Pixels.{length-pixelsOf}
-use Rattle.rle.proofs.Lengths.{both}
+use Rattle.definition.proofs.Headers.{both}
 
 -- the marks of a row that stays
 kept : (first stays insert : Bool) → (first ≡ true → stays ≡ true)

@@ -1,17 +1,12 @@
-pub mod Table
 pub mod Pixels
 pub mod Painting
 pub mod Lengths
 pub mod Numbers
-pub mod Masks
-pub mod Planned
 pub mod Orders
 pub mod FirstRow
 pub mod Running
 pub mod Stream
 pub mod Walks
-pub mod Bounds
 pub mod Calls
 pub mod Counting
-pub mod Runs
 pub mod Theorems

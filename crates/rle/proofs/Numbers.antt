@@ -14,11 +14,11 @@ use Rattle.rle.specs.declared.code.RunLength.the-variants.{Of}
 use Rattle.picture.specs.Pixels.{pick}
 use Rattle.picture.specs.Sizes.{refusal}
 use Rattle.picture.proofs.Tests.{by-test}
-use Rattle.rle.specs.Orders.{White, Black, NoOrder, Row, rows, row, noRow, rowOf, runLength, lengthOf}
-use Rattle.rle.specs.Codes.{kindRow, kindOf, kindNumber, lengthNumber}
-use Rattle.rle.specs.Plan.{counts, refuses, runCounts, countsOf, leavesInsert}
+use Rattle.definition.specs.Orders.{White, Black, NoOrder, Row, rows, row, noRow, rowOf, runLength, lengthOf}
+use Rattle.definition.specs.Codes.{kindRow, kindOf, kindNumber, lengthNumber}
+use Rattle.definition.specs.Plan.{counts, refuses, runCounts, countsOf, leavesInsert}
 use Rattle.rle.specs.Contracts.{Reads, lengthIs, imageKind, specialKind, pixelKind}
-use Rattle.rle.proofs.Lengths.{fixed-length, by-header}
+use Rattle.definition.proofs.Headers.{fixed-length, by-header}
 
 -- an image, with a foreground of its own or without
 pub image-number : (c : ℕ) → (c ≡ 2) ⊎ (c ≡ 6) → kindOf c ≡ imageKind c

@@ -18,14 +18,14 @@ use Rattle.rle.specs.declared.plan.Answer.the-variants.{Done, Refused}
 use Rattle.picture.specs.Pixels.{Pixel, pick, OfDepth}
 use Rattle.picture.specs.Sizes.{refusal, Frame}
 use Rattle.picture.proofs.Tests.{by-test}
-use Rattle.rle.specs.Orders.{Kind, BgRun, FgRun, FgBgImage, ColorRun, ColorImage, SetFgRun, SetFgBgImage, DitheredRun, SpecialFgBg1, SpecialFgBg2, White, Black, NoOrder}
-use Rattle.rle.specs.Decode.{solid, fgInk, bgInk, insertInk, maskInk, State, state, room, orderOf}
-use Rattle.rle.specs.Plan.{refuses, Counts, counts, behind, withOperands, runCounts, countsOf, leavesInsert, newForeground, foregroundBy, insertAfter, ordersAfter, imageInk, kindInk, endWith}
+use Rattle.definition.specs.Orders.{Kind, BgRun, FgRun, FgBgImage, ColorRun, ColorImage, SetFgRun, SetFgBgImage, DitheredRun, SpecialFgBg1, SpecialFgBg2, White, Black, NoOrder}
+use Rattle.definition.specs.Decode.{solid, fgInk, bgInk, insertInk, maskInk, State, state, room, orderOf}
+use Rattle.definition.specs.Plan.{refuses, Counts, counts, behind, withOperands, runCounts, countsOf, leavesInsert, newForeground, foregroundBy, insertAfter, ordersAfter, imageInk, kindInk, endWith}
 use Rattle.rle.specs.Contracts.{countsIn, HasPlace, Paintable, Painted, Framed, Sound, Did, frameOf, stateOf, endingIn, outcomeOf, inkOf, reach, rowAbove, fgMode, bgMode, fgOf, bgOf, withFg, Fits, finishedOf}
 use Rattle.rle.proofs.Pixels.{length-pixelsOf}
 use Rattle.rle.proofs.Painting.{of-depth, painted-as}
-use Rattle.rle.proofs.Masks.{acted, image-masks}
-use Rattle.rle.proofs.Planned.{inkBy, kind-acted, Within, kind-within, orders-few, run-most, operands-there, image-read}
+use Rattle.definition.proofs.Masks.{acted, image-masks}
+use Rattle.definition.proofs.Planned.{inkBy, kind-acted, Within, kind-within, orders-few, run-most, operands-there, image-read}
 
 -- ---- painting
 

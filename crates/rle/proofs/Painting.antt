@@ -15,10 +15,11 @@ use Rattle.rle.specs.declared.paint.Mode.{Mode}
 use Rattle.rle.specs.declared.paint.Mode.the-variants.{Solid, Above, AboveXor}
 use Rattle.rle.specs.declared.paint.Ink.{Ink as CodeInk}
 use Rattle.picture.specs.Pixels.{Pixel, pick, firstPixel, pixelAt, xorPixel, OfDepth}
-use Rattle.rle.specs.Decode.{Ink, solid, color, paint, pixelAbove, insertInk, maskInk, ditherInk}
-use Rattle.rle.specs.Plan.{imageInk}
+use Rattle.definition.specs.Decode.{Ink, solid, color, paint, pixelAbove, insertInk, maskInk, ditherInk}
+use Rattle.definition.specs.Plan.{imageInk}
 use Rattle.rle.specs.Contracts.{pixelsOf, storePixel, HasPlace, Paintable, PaintedOne, Painted, reach, inkOf, solidInk}
 use Rattle.picture.proofs.Pixels.{first-pixel-cong, getD-first-pixel, length-first-pixel}
+use Rattle.definition.proofs.Painting.{paint-cong, paint-add}
 use Rattle.rle.proofs.Pixels.{length-pixelsOf, getD-pixelsOf, store-before, store-there, store-after}
 
 -- ---- colors have their unused bytes zero
@@ -127,14 +128,6 @@ rest-later D p q xs ys h e =
     let m : q * D ≡ p * D + (q * D - p * D) = omega (arith, mul-le-mul-right {m = p} {n = q} D h) in
     rw m (sym (drop-drop (q * D - p * D) (p * D) xs) ∙ ap (λ (l : List ℕ). drop (q * D - p * D) l) e ∙ drop-drop (q * D - p * D) (p * D) ys)
 
-pub length-paint : (w : ℕ) (ink : ℕ → Ink) (n : ℕ) (ps : List Pixel) → length (paint w ink n ps) ≡ length ps + n
-unfolding paint
-length-paint w ink zero ps = sym (add-zero (length ps))
-length-paint w ink (suc n) ps =
-    length-append (paint w ink n ps) (color w (paint w ink n ps) (ink n) ∷ [])
-    ∙ ap (λ (m : ℕ). m + 1) (length-paint w ink n ps)
-    ∙ omega arith
-
 pub painted-at : {D w k i n : ℕ} {ink : ℕ → Ink} {xs ys : List ℕ} → i ≡ n → Painted D w ink k i xs ys → Painted D w ink k n xs ys
 painted-at {D} {w} {k} {i} {n} {ink} {xs} {ys} e p = subst (λ (m : ℕ). Painted D w ink k m xs ys) e p
 
@@ -142,23 +135,8 @@ painted-at {D} {w} {k} {i} {n} {ink} {xs} {ys} e p = subst (λ (m : ℕ). Painte
 pub one-as : {D w k : ℕ} {i j : Ink} {xs ys : List ℕ} → i ≡ j → PaintedOne D w i k xs ys → PaintedOne D w j k xs ys
 one-as {D} {w} {k} {i} {j} {xs} {ys} e p = subst (λ (x : Ink). PaintedOne D w x k xs ys) e p
 
--- only the inks of the pixels painted matter
-pub paint-cong : (w : ℕ) (i j : ℕ → Ink) (n : ℕ) (ps : List Pixel) → ((k : ℕ) → k < n → i k ≡ j k) → paint w i n ps ≡ paint w j n ps
-unfolding paint
-paint-cong w i j zero ps e = refl
-paint-cong w i j (suc n) ps e =
-    let r = paint-cong w i j n ps (λ k h. e k (omega arith)) in
-    let c = e n (omega arith) in
-    λ t. r t ++ (color w (r t) (c t) ∷ [])
-
 pub painted-as : {D w k n : ℕ} {i j : ℕ → Ink} {xs ys : List ℕ} → ((m : ℕ) → m < n → i m ≡ j m) → Painted D w i k n xs ys → Painted D w j k n xs ys
 painted-as {D} {w} {k} {n} {i} {j} {xs} e p = record { pixels = p .pixels ∙ paint-cong w i j n (pixelsOf D k xs) e; rest = p .rest }
-
-pub paint-add : (w : ℕ) (ink : ℕ → Ink) (m n : ℕ) (ps : List Pixel) → paint w ink (m + n) ps ≡ paint w (λ j. ink (m + j)) n (paint w ink m ps)
-unfolding paint
-paint-add w ink m zero ps = rw add-zero
-paint-add w ink m (suc n) ps =
-    rw add-suc (ap (λ (r : List Pixel). r ++ (color w r (ink (m + n)) ∷ [])) (paint-add w ink m n ps))
 
 pub painted-join : (D w k m n : ℕ) (ink : ℕ → Ink) (xs ys zs : List ℕ) → Painted D w ink k m xs ys
     → Painted D w (λ j. ink (m + j)) (k + m) n ys zs → Painted D w ink k (m + n) xs zs

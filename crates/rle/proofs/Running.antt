@@ -9,7 +9,7 @@ use Rattle.rle.specs.declared.plan.Answer.{Answer}
 use Rattle.rle.specs.declared.plan.Answer.the-variants.{Done, Refused}
 use Rattle.picture.specs.declared.outcome.RleError.{RleError}
 use Rattle.picture.specs.Sizes.{Frame}
-use Rattle.rle.specs.Decode.{State, Step, step, Run, ended, atEnd, thenRun, run, decode, start}
+use Rattle.definition.specs.Decode.{State, Step, step, Run, ended, atEnd, thenRun, run, decode, start}
 use Rattle.rle.specs.Contracts.{outcomeOf, runOf, GoesOn}
 
 run-end : (f : Frame) (n : ℕ) (s : State) → s .left ≡ [] → run f n s ≡ ended s

@@ -16,11 +16,11 @@ use Rattle.rle.specs.declared.code.RunLength.{RunLength as CodeLength}
 use Rattle.rle.specs.declared.code.RunLength.the-variants.{Of, NotRead}
 use Rattle.picture.specs.declared.outcome.RleError.{RleError}
 use Rattle.picture.specs.Sizes.{Frame}
-use Rattle.rle.specs.Orders.{rowOf, lengthOf, headed, headOf}
-use Rattle.rle.specs.Codes.{kindNumber, kindOf}
-use Rattle.rle.specs.Decode.{orderOf, orderFrom, withLeft, endFirstRow, step, start}
+use Rattle.definition.specs.Orders.{rowOf, lengthOf, headed, headOf}
+use Rattle.definition.specs.Codes.{kindNumber, kindOf}
+use Rattle.definition.specs.Decode.{orderOf, orderFrom, withLeft, endFirstRow, step, start}
 use Rattle.rle.specs.Contracts.{pixelsOf, Sound, Did, Reads, Going, GoneTo, goneTo, Ran, Framed, frameOf, stateOf, lengthIs, firstRowEnded, atPos, startOf}
-use Rattle.rle.proofs.Lengths.{row-is}
+use Rattle.definition.proofs.Headers.{row-is}
 use Rattle.rle.proofs.FirstRow.{mark-is, sound-marked, step-marked}
 use Rattle.rle.proofs.Running.{goes-start, goes-end, goes-stop, goes-on, goes-as}
 use Rattle.rle.proofs.Painting.{rest-later}

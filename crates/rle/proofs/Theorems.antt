@@ -12,7 +12,7 @@ use Rattle.picture.specs.declared.outcome.Outcome.the-variants.{Ok, Err}
 use Rattle.picture.specs.declared.outcome.RleError.the-variants.{InvalidBpp, EmptyImage, DimensionsTooLarge, BufferTooShort, BadOrderCode, NotEnoughBytes, InvalidImageSize, UnexpectedZeroLength}
 use Rattle.picture.specs.Pixels.{bytesOf}
 use Rattle.picture.specs.Sizes.{Refusal, Checked, rejected, accepted, checked, withSpace}
-use Rattle.rle.specs.Decode.{Result, ofChecked, result, resultIn}
+use Rattle.definition.specs.Decode.{Result, ofChecked, result, resultIn}
 use Rattle.picture.specs.Outcomes.{refusalIn}
 use Rattle.rle.specs.Report.{Agrees, Decompresses}
 use Rattle.rle.specs.Guarantees.{spaceFor, HasSpace, Defined, NoOldByte, isOk}

@@ -16,14 +16,14 @@ use Rattle.rle.specs.declared.state.State.{State as CodeState}
 use Rattle.rle.specs.declared.state.Stepped.{Stepped}
 use Rattle.picture.specs.declared.outcome.RleError.{RleError}
 use Rattle.picture.specs.Sizes.{Frame}
-use Rattle.rle.specs.Orders.{rowOf, lengthOf, Head, head, noHead, headed, headOf}
-use Rattle.rle.specs.Codes.{kindOf, kindNumber}
-use Rattle.rle.specs.Decode.{State, step, start}
-use Rattle.rle.specs.Plan.{countsOf, insertAfter, ordersAfter, Progress, progressOf, Plan, planBy, planFrom, pastFirstRow, planOf, planState, planStep}
+use Rattle.definition.specs.Orders.{rowOf, lengthOf, Head, head, noHead, headed, headOf}
+use Rattle.definition.specs.Codes.{kindOf, kindNumber}
+use Rattle.definition.specs.Decode.{State, step, start}
+use Rattle.definition.specs.Plan.{countsOf, insertAfter, ordersAfter, Progress, progressOf, Plan, planBy, planFrom, pastFirstRow, planOf, planState, planStep}
 use Rattle.rle.specs.Contracts.{Reads, lengthIs, countsIn, endingIn, frameOf, outcomeOf, atPos, Fits, finishedOf, firstRowEnded, startOf, GoesOn, progressIn, Walks, Walked}
-use Rattle.rle.proofs.Painting.{length-paint}
+use Rattle.definition.proofs.Painting.{length-paint}
 use Rattle.rle.proofs.Numbers.{insert-number}
-use Rattle.rle.proofs.Planned.{step-planned, Within, kind-within, orders-few}
+use Rattle.definition.proofs.Planned.{step-planned, Within, kind-within, orders-few}
 use Rattle.rle.proofs.Orders.{outcome-ends}
 use Rattle.rle.proofs.Running.{goes-start, goes-end, goes-stop, goes-on}
 use Rattle.rle.proofs.Stream.{head-is}

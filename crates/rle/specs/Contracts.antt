@@ -22,9 +22,9 @@ use Rattle.picture.specs.declared.outcome.Outcome.the-variants.{Err}
 use Rattle.rle.specs.declared.report.Report.{Report}
 use Rattle.picture.specs.Pixels.{Pixel, OfDepth, pick, pixelAt}
 use Rattle.picture.specs.Sizes.{Refusal, refusal, Frame}
-use Rattle.rle.specs.Orders.{Kind, FgBgImage, SetFgBgImage, SpecialFgBg1, SpecialFgBg2, White, Black, NoOrder, RunLength, runLength, noLength}
-use Rattle.rle.specs.Decode.{Ink, solid, above, aboveXor, color, paint, State, Step, done, refused, Run, ended, stopped, run, decode}
-use Rattle.rle.specs.Plan.{Ending, completes, refuses, Counts, counts, insertAfter, ordersAfter, Progress, progress, progressOf, planOf}
+use Rattle.definition.specs.Orders.{Kind, FgBgImage, SetFgBgImage, SpecialFgBg1, SpecialFgBg2, White, Black, NoOrder, RunLength, runLength, noLength}
+use Rattle.definition.specs.Decode.{Ink, solid, above, aboveXor, color, paint, State, Step, done, refused, Run, ended, stopped, run, decode}
+use Rattle.definition.specs.Plan.{Ending, completes, refuses, Counts, counts, insertAfter, ordersAfter, Progress, progress, progressOf, planOf}
 use Rattle.picture.specs.Outcomes.{refusalOf, refusalIn, formatIn}
 
 -- ---- pixels in bytes

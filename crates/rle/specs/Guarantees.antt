@@ -10,7 +10,7 @@ use Rattle.picture.specs.declared.outcome.Outcome.{Outcome}
 use Rattle.picture.specs.declared.outcome.Outcome.the-variants.{Ok, Err}
 use Rattle.picture.specs.Pixels.{bytesOf}
 use Rattle.picture.specs.Sizes.{Checked, rejected, accepted, checked}
-use Rattle.rle.specs.Decode.{result}
+use Rattle.definition.specs.Decode.{result}
 use Rattle.picture.specs.Outcomes.{refusalIn, formatIn}
 
 -- a target of `given` bytes has space for the picture; where refusal 1, 2 or 3 comes, every target has

@@ -6,7 +6,7 @@ use lib.ListN.{length, drop}
 use Rattle.picture.specs.Pixels.{bytesOf}
 use Rattle.picture.specs.Outcomes.{refusalIn, formatIn}
 use Rattle.rle.specs.declared.report.Report.{Report}
-use Rattle.rle.specs.Decode.{Result, resultIn}
+use Rattle.definition.specs.Decode.{Result, resultIn}
 
 -- the report is that of the result e, and the target holds the painted bytes and then what it held
 pub record Agrees (src before after : List ℕ) (total : ℕ) (r : Report) (e : Result) : Type 0 where

@@ -2,9 +2,9 @@
 ghost use mathlib.Core.Path.{_≡_};
 ghost use Prim.Native.Nat.{_≤_, _<_};
 ghost use lib.ListN.{length, drop};
-ghost use Rattle.rle.specs.Orders.{rowOf, lengthOf, megaLength, megaMegaLength};
-ghost use Rattle.rle.specs.Codes as codes;
-ghost use Rattle.rle.specs.Codes.{kindNumber, megaNumber};
+ghost use Rattle.definition.specs.Orders.{rowOf, lengthOf, megaLength, megaMegaLength};
+ghost use Rattle.definition.specs.Codes as codes;
+ghost use Rattle.definition.specs.Codes.{kindNumber, megaNumber};
 ghost use Rattle.rle.specs.Contracts.{Reads};
 use crate::header::own_length;
 use buf::Read;

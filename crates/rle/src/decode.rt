@@ -3,7 +3,7 @@ ghost use mathlib.Core.Path.{_≡_};
 ghost use mathlib.Core.Bool.{true};
 ghost use Prim.Native.Nat.{_≤_};
 ghost use lib.ListN.{length};
-ghost use Rattle.rle.specs.Codes as codes;
+ghost use Rattle.definition.specs.Codes as codes;
 ghost use Rattle.rle.specs.Contracts.{frameOf, Framed, Going, GoneTo, Ran};
 use crate::header::header_kinds;
 use crate::header::header_lengths;

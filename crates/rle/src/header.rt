@@ -1,7 +1,7 @@
 // An order's header byte: its kind and its own run length, each by one constant table.
 ghost use mathlib.Core.Path.{_≡_};
 ghost use Prim.Native.Nat.{_<_};
-ghost use Rattle.rle.specs.Codes.{kindNumber, kinds, lengthNumber, lengths};
+ghost use Rattle.definition.specs.Codes.{kindNumber, kinds, lengthNumber, lengths};
 
 // The kind of each header byte, by its number in the definition's table: 0 background run, 1 foreground run, 2 fg/bg image,
 // 3 color run, 4 color image, 5 set-foreground run, 6 set-foreground fg/bg image, 7 dithered run, 8 and 9 special fg/bg 1 and 2,

@@ -1,7 +1,7 @@
 // Decoder of interleaved RLE bitmaps (MS-RDPBCGR 2.2.9.1.1.3.1.2.4 and 3.1.9), a port of IronRDP's rle.rs.
 //
 // What a stream means is defined in specs/Decode.antt; what `decompress` promises of it, in specs/Report.antt.
-ghost use Rattle.rle.specs.Decode.{result};
+ghost use Rattle.definition.specs.Decode.{result};
 ghost use Rattle.rle.specs.Report.{Decompresses, Reported};
 
 pub(crate) mod code;

@@ -8,8 +8,8 @@ ghost use Prim.Native.Nat.{_*_, _≤_, _<_, min};
 ghost use lib.Dec.{ltb, leb, eqb};
 ghost use Rattle.picture.specs.Pixels.{pick};
 ghost use Rattle.picture.specs.Sizes.{refusal};
-ghost use Rattle.rle.specs.Orders as orders;
-ghost use Rattle.rle.specs.Plan as plan;
+ghost use Rattle.definition.specs.Orders as orders;
+ghost use Rattle.definition.specs.Plan as plan;
 ghost use Rattle.rle.specs.Contracts.{countsIn};
 use picture::RleError;
 

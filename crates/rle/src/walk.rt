@@ -3,8 +3,8 @@
 ghost use mathlib.Core.Path.{_≡_};
 ghost use Prim.Native.Nat.{_≤_, _<_};
 ghost use lib.ListN.{length, getD};
-ghost use Rattle.rle.specs.Codes as codes;
-ghost use Rattle.rle.specs.Plan as plan;
+ghost use Rattle.definition.specs.Codes as codes;
+ghost use Rattle.definition.specs.Plan as plan;
 ghost use Rattle.rle.specs.Contracts.{frameOf, countsIn, Walks, Walked};
 use crate::code::RunLength;
 use crate::code::extract_run_length;

@@ -11,7 +11,7 @@ use lib.ListN.{length, getD, take}
 use lib.Seq.{ext-getD, getD-take, length-take-le}
 use borrow.Author.Tests.{eq-eqb, ne-eqb, lt-ltb, eqb-true, eqb-false}
 use Rattle.picture.specs.Sizes.{Checked, rejected, accepted, checked, sizeOf}
-use Rattle.rle.specs.Decode.{ofChecked, result}
+use Rattle.definition.specs.Decode.{ofChecked, result}
 use Rattle.tile_text.specs.Text.{textOf, Tile}
 use Rattle.tile_text.specs.Answer.{badTileText, limited, answerOf, Answers, tile, noTile}
 use Rattle.tile_text.specs.Parse.{start, fed, fedInto}

@@ -10,7 +10,7 @@ use lib.Seq.{take-append-seam}
 use borrow.Author.Tests.{eq-eqb, ne-eqb, lt-ltb, le-ltb}
 use Rattle.picture.specs.Pixels.{pick, bytesOf}
 use Rattle.picture.specs.Sizes.{Refusal, refusal, Checked, rejected, accepted, Frame, checked, accept, depthOf, bytes, refused, sizeOf}
-use Rattle.rle.specs.Decode.{Result, Run, ended, paused, stopped, ofChecked, ofRun, resultOf, decode, result}
+use Rattle.definition.specs.Decode.{Result, Run, ended, paused, stopped, ofChecked, ofRun, resultOf, decode, result}
 use Rattle.picture.specs.Outcomes.{refusalIn, formatIn}
 use Rattle.rle.specs.Report.{Agrees, Decompresses}
 use Rattle.rle.specs.declared.report.Report.{Report}

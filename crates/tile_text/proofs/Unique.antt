@@ -5,7 +5,7 @@ use Prim.Native.Nat.{ℕ, _+_, _/_, _%_, _<_}
 use native.Mathlib.Omega.{arith}
 use lib.ListN.{length, drop}
 use lib.Seq.{drop-append-seam}
-use Rattle.rle.specs.Decode.{Result}
+use Rattle.definition.specs.Decode.{Result}
 use Rattle.tile_text.specs.Text.{decimal, hexDigit, hexPairs, widthKey, heightKey, bppKey, streamKey, line, textOf, Bytes, Tile}
 use Rattle.tile_text.specs.Answer.{answerOf, Answers, tile, noTile}
 use Rattle.tile_text.specs.Parse.{hexValue}

@@ -8,7 +8,7 @@ use lib.Dec.{ltb, eqb}
 use lib.ListN.{length}
 use Rattle.picture.specs.Pixels.{pick, bytesOf}
 use Rattle.picture.specs.Sizes.{Refusal, refusal, checked, Size, bytes, refused, sizeOf}
-use Rattle.rle.specs.Decode.{Result, result}
+use Rattle.definition.specs.Decode.{Result, result}
 use Rattle.tile_text.specs.Text.{decimal, hexPairs, line, textOf, Tile}
 
 -- a refusal that decodes nothing: the counts are 0, and no byte is painted

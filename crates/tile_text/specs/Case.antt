@@ -5,8 +5,8 @@ use mathlib.Core.List.{List, [], _∷_, map}
 use Prim.Native.Nat.{ℕ}
 use Rattle.picture.specs.Pixels as Pixels
 use Rattle.picture.specs.Sizes as Sizes
-use Rattle.rle.specs.Orders as Orders
-use Rattle.rle.specs.Decode as Decode
+use Rattle.definition.specs.Orders as Orders
+use Rattle.definition.specs.Decode as Decode
 use Rattle.tile_text.specs.Text as Text
 use Rattle.tile_text.specs.Answer as Answer
 use Rattle.tile_text.specs.Text.{textOf}

@@ -7,7 +7,7 @@ use lib.ListN.{length, take, drop}
 use lib.Seq.{sets}
 use Rattle.picture.specs.Pixels.{bytesOf}
 use Rattle.picture.specs.Sizes.{Refusal, checked, bytes, sizeOf}
-use Rattle.rle.specs.Decode.{Result}
+use Rattle.definition.specs.Decode.{Result}
 use Rattle.tile_text.specs.Text.{decimal, hexPairs, line}
 use Rattle.tile_text.specs.Answer.{formatName, formatKey, refusalKey, firstKey, secondKey, ordersKey, pixelsKey, paintedKey}
 use Rattle.tile_text.specs.declared.parser.Parser.{Parser}

@@ -7,7 +7,7 @@ use lib.Dec.{eqb}
 use lib.ListN.{length, take, drop}
 use Rattle.picture.specs.Pixels.{pick, bytesOf}
 use Rattle.picture.specs.Sizes.{checked, sizeOf}
-use Rattle.rle.specs.Decode.{Result, result}
+use Rattle.definition.specs.Decode.{Result, result}
 use Rattle.tile_text.specs.Answer.{badTileText, limited, linesOf, Answers}
 use Rattle.tile_text.specs.declared.parser.Parser.{Parser}
 

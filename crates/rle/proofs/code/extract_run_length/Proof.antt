@@ -1,7 +1,8 @@
 -- `extract_run_length` meets its contract: a law for each place where a length stands. Assumes nothing.
 use mathlib.Core.Path.{sym}
 use native.Mathlib.Omega.{arith}
-use Rattle.rle.proofs.Lengths.{mega-range, by-header, own-read, reads-as}
+use Rattle.definition.proofs.Headers.{mega-range, by-header}
+use Rattle.rle.proofs.Lengths.{own-read, reads-as}
 use borrow.Author.Needs.{needs}
 use Rattle.rle.proofs.code.extract_run_length.Statement.{statement}
 use Rattle.rle.proofs.code.extract_run_length.Tie as tie

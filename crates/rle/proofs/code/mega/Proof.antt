@@ -1,6 +1,6 @@
 -- `mega` meets its contract: one case for each of its tests. Assumes nothing.
 use borrow.Author.Tests.{eq-eqb, ne-eqb, lt-ltb, le-ltb}
-use Rattle.rle.specs.Codes.{megaNumber}
+use Rattle.definition.specs.Codes.{megaNumber}
 use Rattle.rle.proofs.code.mega.Statement.{statement}
 use Rattle.rle.proofs.code.mega.Tie as tie
 

@@ -1,7 +1,7 @@
 -- `header_kinds` meets its contract: the code's table is that of the definition's rule at all 256 headers, by computation. Assumes nothing.
 use mathlib.Core.Path.{refl}
-use Rattle.rle.specs.Orders.{hasHeader, isMegaMega, rows, row}
-use Rattle.rle.specs.Codes.{tabulate, kinds, kindNumber, numberIn}
+use Rattle.definition.specs.Orders.{hasHeader, isMegaMega, rows, row}
+use Rattle.definition.specs.Codes.{tabulate, kinds, kindNumber, numberIn}
 use Rattle.rle.proofs.header.header_kinds.Statement.{statement}
 use Rattle.rle.proofs.header.header_kinds.Tie as tie
 

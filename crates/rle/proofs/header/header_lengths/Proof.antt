@@ -1,7 +1,7 @@
 -- `header_lengths` meets its contract: the code's table is that of the definition's rule at all 256 headers, by computation. Assumes nothing.
 use mathlib.Core.Path.{refl}
-use Rattle.rle.specs.Orders.{hasHeader, isMegaMega, rows, row, noRow, rowIn, rowOf, placeIn, placeOf, ownLength}
-use Rattle.rle.specs.Codes.{tabulate, lengths, lengthNumber, ownAt}
+use Rattle.definition.specs.Orders.{hasHeader, isMegaMega, rows, row, noRow, rowIn, rowOf, placeIn, placeOf, ownLength}
+use Rattle.definition.specs.Codes.{tabulate, lengths, lengthNumber, ownAt}
 use Rattle.rle.proofs.header.header_lengths.Statement.{statement}
 use Rattle.rle.proofs.header.header_lengths.Tie as tie
 

@@ -1,6 +1,6 @@
 -- `kind` meets its contract: an entry of the table is the definition's kind of that header. Assumes nothing.
-use Rattle.rle.specs.Codes.{kinds, kindNumber}
-use Rattle.rle.proofs.Table.{getD-tabulate}
+use Rattle.definition.specs.Codes.{kinds, kindNumber}
+use Rattle.definition.proofs.Table.{getD-tabulate}
 use borrow.Author.Needs.{needs}
 use Rattle.rle.proofs.header.kind.Statement.{statement}
 use Rattle.rle.proofs.header.kind.Tie as tie

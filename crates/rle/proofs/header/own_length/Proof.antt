@@ -1,6 +1,6 @@
 -- `own_length` meets its contract: an entry of the table is the definition's own length of that header. Assumes nothing.
-use Rattle.rle.specs.Codes.{lengths, lengthNumber}
-use Rattle.rle.proofs.Table.{getD-tabulate}
+use Rattle.definition.specs.Codes.{lengths, lengthNumber}
+use Rattle.definition.proofs.Table.{getD-tabulate}
 use borrow.Author.Needs.{needs}
 use Rattle.rle.proofs.header.own_length.Statement.{statement}
 use Rattle.rle.proofs.header.own_length.Tie as tie

@@ -1,8 +1,8 @@
 -- `bg_run` meets its contract: the run is painted as planned. Assumes nothing.
 use mathlib.Core.Path.{refl}
 use native.Mathlib.Omega.{arith}
-use Rattle.rle.specs.Orders.{BgRun}
-use Rattle.rle.specs.Plan.{countsOf, kindInk, leavesInsert, foregroundBy}
+use Rattle.definition.specs.Orders.{BgRun}
+use Rattle.definition.specs.Plan.{countsOf, kindInk, leavesInsert, foregroundBy}
 use Rattle.rle.proofs.Orders.{within, fits, did-finished, paintable, fg-row, bg-row, insert-inks}
 use borrow.Author.Needs.{needs}
 use Rattle.rle.proofs.order.bg_run.Statement.{statement}

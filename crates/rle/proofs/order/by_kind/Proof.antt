@@ -1,8 +1,8 @@
 -- `by_kind` meets its contract: each arm is the order of its kind's number. Assumes nothing.
 use mathlib.Core.Path.{ap, sym}
 use Prim.Native.Nat.{ℕ}
-use Rattle.rle.specs.Orders.{rows, row}
-use Rattle.rle.specs.Codes.{kindOf, kindRow}
+use Rattle.definition.specs.Orders.{rows, row}
+use Rattle.definition.specs.Codes.{kindOf, kindRow}
 use Rattle.rle.proofs.Numbers.{image-number, special-number, pixel-number}
 use Rattle.rle.proofs.Orders.{did-kind}
 use borrow.Author.Needs.{needs}

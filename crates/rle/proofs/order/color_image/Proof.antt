@@ -1,8 +1,8 @@
 -- `color_image` meets its contract: the image is painted as planned, with the pixels of the stream. Assumes nothing.
 use mathlib.Core.Path.{refl}
 use native.Mathlib.Omega.{arith}
-use Rattle.rle.specs.Orders.{ColorImage}
-use Rattle.rle.specs.Plan.{countsOf, kindInk, leavesInsert, foregroundBy}
+use Rattle.definition.specs.Orders.{ColorImage}
+use Rattle.definition.specs.Plan.{countsOf, kindInk, leavesInsert, foregroundBy}
 use Rattle.rle.proofs.Orders.{within, fits, image-operands, did-finished, has-place}
 use borrow.Author.Needs.{needs}
 use Rattle.rle.proofs.order.color_image.Statement.{statement}

@@ -1,8 +1,8 @@
 -- `color_run` meets its contract: the run is painted as planned, in the color that it reads. Assumes nothing.
 use mathlib.Core.Path.{refl}
 use native.Mathlib.Omega.{arith}
-use Rattle.rle.specs.Orders.{ColorRun}
-use Rattle.rle.specs.Plan.{countsOf, kindInk, leavesInsert, foregroundBy}
+use Rattle.definition.specs.Orders.{ColorRun}
+use Rattle.definition.specs.Plan.{countsOf, kindInk, leavesInsert, foregroundBy}
 use Rattle.rle.proofs.Orders.{within, fits, operands-read, did-finished, has-place}
 use borrow.Author.Needs.{needs}
 use Rattle.rle.proofs.order.color_run.Statement.{statement}

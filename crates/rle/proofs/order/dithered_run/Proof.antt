@@ -1,8 +1,8 @@
 -- `dithered_run` meets its contract: the run is painted as planned, in the two colors that it reads. Assumes nothing.
 use mathlib.Core.Path.{refl}
 use native.Mathlib.Omega.{arith}
-use Rattle.rle.specs.Orders.{DitheredRun}
-use Rattle.rle.specs.Plan.{countsOf, kindInk, leavesInsert, foregroundBy}
+use Rattle.definition.specs.Orders.{DitheredRun}
+use Rattle.definition.specs.Plan.{countsOf, kindInk, leavesInsert, foregroundBy}
 use Rattle.rle.proofs.Orders.{within, fits, operands-read, did-finished, has-place}
 use borrow.Author.Needs.{needs}
 use Rattle.rle.proofs.order.dithered_run.Statement.{statement}

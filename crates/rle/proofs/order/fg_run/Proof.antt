@@ -1,8 +1,8 @@
 -- `fg_run` meets its contract: the run is painted as planned. Assumes nothing.
 use mathlib.Core.Path.{refl}
 use native.Mathlib.Omega.{arith}
-use Rattle.rle.specs.Orders.{FgRun}
-use Rattle.rle.specs.Plan.{countsOf, kindInk, leavesInsert, foregroundBy}
+use Rattle.definition.specs.Orders.{FgRun}
+use Rattle.definition.specs.Plan.{countsOf, kindInk, leavesInsert, foregroundBy}
 use Rattle.rle.proofs.Painting.{painted-as}
 use Rattle.rle.proofs.Orders.{within, fits, did-finished, paintable, fg-row, fg-is}
 use borrow.Author.Needs.{needs}

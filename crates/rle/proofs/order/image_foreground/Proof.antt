@@ -1,6 +1,6 @@
 -- `image_foreground` meets its contract: kind 6 has a foreground of its own. Assumes nothing.
 use borrow.Author.Tests.{eq-eqb, ne-eqb}
-use Rattle.rle.specs.Plan.{foregroundBy}
+use Rattle.definition.specs.Plan.{foregroundBy}
 use borrow.Author.Needs.{needs}
 use Rattle.rle.proofs.order.image_foreground.Statement.{statement}
 use Rattle.rle.proofs.order.image_foreground.Tie as tie

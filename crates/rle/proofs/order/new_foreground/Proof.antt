@@ -1,7 +1,7 @@
 -- `new_foreground` meets its contract: the foreground's bytes are there, or not. Assumes nothing.
 use lib.ListN.{length-drop}
 use borrow.Author.Tests.{le-leb, lt-leb}
-use Rattle.rle.specs.Plan.{newForeground}
+use Rattle.definition.specs.Plan.{newForeground}
 use borrow.Author.Needs.{needs}
 use Rattle.rle.proofs.order.new_foreground.Statement.{statement}
 use Rattle.rle.proofs.order.new_foreground.Tie as tie

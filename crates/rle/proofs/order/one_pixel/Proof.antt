@@ -2,7 +2,7 @@
 use mathlib.Core.Path.{ap, _∙_}
 use native.Mathlib.Omega.{arith}
 use lib.Dec.{ltb, eqb}
-use Rattle.rle.specs.Decode.{solid}
+use Rattle.definition.specs.Decode.{solid}
 use Rattle.rle.specs.Contracts.{frameOf, stateOf, pixelKind}
 use Rattle.rle.proofs.Painting.{painted-as, turn-pixel}
 use Rattle.rle.proofs.Numbers.{pixel-plans}

@@ -1,8 +1,8 @@
 -- `set_fg_run` meets its contract: the run is painted as planned, with the foreground that it reads. Assumes nothing.
 use mathlib.Core.Path.{refl}
 use native.Mathlib.Omega.{arith}
-use Rattle.rle.specs.Orders.{SetFgRun}
-use Rattle.rle.specs.Plan.{countsOf, kindInk, leavesInsert, foregroundBy}
+use Rattle.definition.specs.Orders.{SetFgRun}
+use Rattle.definition.specs.Plan.{countsOf, kindInk, leavesInsert, foregroundBy}
 use Rattle.rle.proofs.Painting.{painted-as}
 use Rattle.rle.proofs.Orders.{within, fits, fits-with, did-finished, paintable, fg-row, fg-is, new-of-depth}
 use borrow.Author.Needs.{needs}

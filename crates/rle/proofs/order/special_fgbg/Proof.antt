@@ -2,8 +2,8 @@
 use mathlib.Core.Path.{_∙_}
 use native.Mathlib.Omega.{arith}
 use lib.Dec.{eqb}
-use Rattle.rle.specs.Orders.{SpecialFgBg1}
-use Rattle.rle.specs.Plan.{countsOf}
+use Rattle.definition.specs.Orders.{SpecialFgBg1}
+use Rattle.definition.specs.Plan.{countsOf}
 use Rattle.rle.specs.Contracts.{frameOf, stateOf, specialKind}
 use Rattle.rle.proofs.Painting.{painted-as}
 use Rattle.rle.proofs.Orders.{within, fits, did-finished, paintable, fg-row, bg-row, mask-inks, special-counts, special-leaves, special-few, special-ink}

@@ -4,7 +4,7 @@ use mathlib.Core.Path.{_≡_, refl, _∙_}
 use lib.Dec.{eqb}
 use lib.ListN.{length}
 use native.Mathlib.Omega.{arith}
-use Rattle.rle.specs.Decode.{ditherInk}
+use Rattle.definition.specs.Decode.{ditherInk}
 use Rattle.rle.specs.Contracts.{Painted}
 use Rattle.rle.proofs.Painting.{painted-none, painted-more, painted-at, one-stored, one-place, turn-pixel, dither-solid}
 use Rattle.rle.proofs.paint.paint_dithered.Statement.{statement}

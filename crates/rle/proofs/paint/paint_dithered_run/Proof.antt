@@ -5,7 +5,7 @@ use Prim.Native.Nat.{ℕ}
 use native.Mathlib.Omega.{arith}
 use lib.Seq.{drop-drop}
 use Rattle.picture.specs.Pixels.{firstPixel}
-use Rattle.rle.specs.Decode.{ditherInk}
+use Rattle.definition.specs.Decode.{ditherInk}
 use Rattle.rle.proofs.Painting.{painted-zero, painted-as, read-of-depth}
 use borrow.Author.Needs.{needs}
 use Rattle.rle.proofs.paint.paint_dithered_run.Statement.{statement}

@@ -5,7 +5,7 @@ use mathlib.Core.Path.{_≡_, refl, _∙_}
 use lib.ListN.{length, drop}
 use native.Mathlib.Omega.{arith}
 use Rattle.picture.specs.Pixels.{pixelAt}
-use Rattle.rle.specs.Decode.{solid}
+use Rattle.definition.specs.Decode.{solid}
 use Rattle.rle.specs.Contracts.{Painted}
 use Rattle.rle.proofs.Painting.{painted-none, painted-zero, painted-more, painted-at, of-depth, one-stored, one-place, image-solid, image-fits}
 use Rattle.rle.proofs.paint.paint_image.Statement.{statement}

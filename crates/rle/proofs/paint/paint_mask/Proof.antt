@@ -5,7 +5,7 @@ use mathlib.Core.Path.{_≡_, refl, _∙_}
 use lib.ListN.{length}
 use native.Mathlib.Omega.{arith}
 use Rattle.rle.specs.Contracts.{Painted, inkOf}
-use Rattle.rle.specs.Decode.{maskInk}
+use Rattle.definition.specs.Decode.{maskInk}
 use Rattle.rle.proofs.Painting.{painted-none, painted-more, painted-at, at-most-bytes, part, one-as, mask-none, mask-more, mask-ink}
 use Rattle.rle.proofs.paint.paint_mask.Statement.{statement}
 use Rattle.rle.proofs.paint.paint_mask.Tie as tie

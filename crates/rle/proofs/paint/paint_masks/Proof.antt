@@ -3,7 +3,7 @@ use mathlib.Core.Path.{_≡_, refl, _∙_}
 use Prim.Native.Nat.{_+_, _-_, _%_, _≤_, _<_}
 use lib.ListN.{length, drop}
 use native.Mathlib.Omega.{arith}
-use Rattle.rle.specs.Plan.{imageInk}
+use Rattle.definition.specs.Plan.{imageInk}
 use Rattle.rle.specs.Contracts.{Painted, inkOf}
 use Rattle.rle.proofs.Painting.{painted-none, painted-zero, painted-join, painted-as, painted-at, at-most-bytes, part, mask-in-image}
 use Rattle.rle.proofs.paint.paint_masks.Statement.{statement}

@@ -1,7 +1,7 @@
 -- `cut_image` meets its contract: a mask is missing first, or room. Assumes nothing.
 use native.Mathlib.Omega.{arith}
 use borrow.Author.Tests.{le-leb, lt-leb}
-use Rattle.rle.specs.Plan.{behind, masksFor, imageCounts}
+use Rattle.definition.specs.Plan.{behind, masksFor, imageCounts}
 use borrow.Author.Needs.{needs}
 use Rattle.rle.proofs.plan.cut_image.Statement.{statement}
 use Rattle.rle.proofs.plan.cut_image.Tie as tie

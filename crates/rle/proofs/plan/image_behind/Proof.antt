@@ -2,8 +2,8 @@
 use mathlib.Core.Path.{sym, _∙_}
 use lib.Dec.{leb}
 use borrow.Author.Tests.{leb-false, le-leb}
-use Rattle.rle.specs.Plan.{behind, masksFor, imageCounts}
-use Rattle.rle.proofs.Lengths.{both}
+use Rattle.definition.specs.Plan.{behind, masksFor, imageCounts}
+use Rattle.definition.proofs.Headers.{both}
 use borrow.Author.Needs.{needs}
 use Rattle.rle.proofs.plan.image_behind.Statement.{statement}
 use Rattle.rle.proofs.plan.image_behind.Tie as tie

@@ -1,5 +1,5 @@
 -- `no_mask` meets its contract: the definition's counts, as they are. Assumes nothing.
-use Rattle.rle.specs.Plan.{behind, noMask}
+use Rattle.definition.specs.Plan.{behind, noMask}
 use borrow.Author.Needs.{needs}
 use Rattle.rle.proofs.plan.no_mask.Statement.{statement}
 use Rattle.rle.proofs.plan.no_mask.Tie as tie

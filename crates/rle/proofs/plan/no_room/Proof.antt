@@ -1,7 +1,7 @@
 -- `no_room` meets its contract: its counts are the definition's. Assumes nothing.
 use native.Mathlib.Nat.{add-suc}
 use native.Mathlib.Numerals.{add-one}
-use Rattle.rle.specs.Plan.{behind, noRoom}
+use Rattle.definition.specs.Plan.{behind, noRoom}
 use borrow.Author.Needs.{needs}
 use Rattle.rle.proofs.plan.no_room.Statement.{statement}
 use Rattle.rle.proofs.plan.no_room.Tie as tie

@@ -1,7 +1,7 @@
 -- `pixels_behind` meets its contract: there is room for the pixels, or not. Assumes nothing.
 use native.Mathlib.Nat.{add-zero}
 use borrow.Author.Tests.{le-leb, lt-leb}
-use Rattle.rle.specs.Plan.{behind, runCounts}
+use Rattle.definition.specs.Plan.{behind, runCounts}
 use borrow.Author.Needs.{needs}
 use Rattle.rle.proofs.plan.pixels_behind.Statement.{statement}
 use Rattle.rle.proofs.plan.pixels_behind.Tie as tie

@@ -4,8 +4,8 @@ use native.Mathlib.Omega.{arith}
 use lib.Dec.{eqb}
 use borrow.Author.Tests.{le-leb, lt-leb}
 use Rattle.picture.proofs.Tests.{by-test}
-use Rattle.rle.specs.Plan.{withOperands}
-use Rattle.rle.proofs.Planned.{image-counts}
+use Rattle.definition.specs.Plan.{withOperands}
+use Rattle.definition.proofs.Planned.{image-counts}
 use borrow.Author.Needs.{needs}
 use Rattle.rle.proofs.plan.plan_fgbg_image.Statement.{statement}
 use Rattle.rle.proofs.plan.plan_fgbg_image.Tie as tie

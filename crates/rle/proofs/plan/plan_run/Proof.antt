@@ -1,6 +1,6 @@
 -- `plan_run` meets its contract: nothing stands before the pixels. Assumes nothing.
 use native.Mathlib.Nat.{zero-add}
-use Rattle.rle.specs.Plan.{behind}
+use Rattle.definition.specs.Plan.{behind}
 use borrow.Author.Needs.{needs}
 use Rattle.rle.proofs.plan.plan_run.Statement.{statement}
 use Rattle.rle.proofs.plan.plan_run.Tie as tie

@@ -1,6 +1,6 @@
 -- `with_operands` meets its contract: the operands are there, or not. Assumes nothing.
 use borrow.Author.Tests.{le-leb, lt-leb}
-use Rattle.rle.specs.Plan.{withOperands}
+use Rattle.definition.specs.Plan.{withOperands}
 use borrow.Author.Needs.{needs}
 use Rattle.rle.proofs.plan.with_operands.Statement.{statement}
 use Rattle.rle.proofs.plan.with_operands.Tie as tie

@@ -1,5 +1,5 @@
 -- `finished` meets its contract: a refused order and a completed one. Assumes nothing.
-use Rattle.rle.specs.Plan.{insertAfter, ordersAfter}
+use Rattle.definition.specs.Plan.{insertAfter, ordersAfter}
 use borrow.Author.Needs.{needs}
 use Rattle.rle.proofs.state.finished.Statement.{statement}
 use Rattle.rle.proofs.state.finished.Tie as tie

@@ -1,9 +1,9 @@
 -- `plan_by_kind` meets its contract: each arm plans the kind of its number. Assumes nothing.
 use mathlib.Core.Path.{_∙_}
 use borrow.Author.Needs.{needs}
-use Rattle.rle.specs.Orders.{rows, row}
-use Rattle.rle.specs.Codes.{kindRow, kindOf}
-use Rattle.rle.specs.Plan.{countsOf}
+use Rattle.definition.specs.Orders.{rows, row}
+use Rattle.definition.specs.Codes.{kindRow, kindOf}
+use Rattle.definition.specs.Plan.{countsOf}
 use Rattle.rle.proofs.Numbers.{image-number, pixel-counts, run-counts, at-number}
 use Rattle.rle.proofs.walk.plan_by_kind.Statement.{statement}
 use Rattle.rle.proofs.walk.plan_by_kind.Tie as tie

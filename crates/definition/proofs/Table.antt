@@ -4,7 +4,7 @@ use Prim.Native.Nat.{ℕ, zero, suc, _+_, _<_}
 use native.Mathlib.Nat.{add-zero, zero-add, add-suc, suc-add, le-of-suc-le-suc, not-suc-le-zero}
 use mathlib.Core.List.{List}
 use lib.ListN.{getD}
-use Rattle.rle.specs.Codes.{tabulate}
+use Rattle.definition.specs.Codes.{tabulate}
 
 getD-from : {A : Type 0} (a : A) (f : ℕ → A) (i n k : ℕ) → k < n → getD (tabulate f i n) k a ≡ f (i + k)
 unfolding tabulate

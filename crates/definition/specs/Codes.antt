@@ -9,8 +9,8 @@ use lib.Dec.{ltb, leb, eqb}
 use lib.Bits.{bitAnd}
 use lib.ListN.{getD}
 use Rattle.picture.specs.Pixels.{pick}
-use Rattle.rle.specs.Orders as orders
-use Rattle.rle.specs.Orders.{Kind, Row, rows, noRow, hasHeader, rowOf, Place, nowhere, inHeader, inByte, inTwoBytes, placeOf, ownLength, megaOf}
+use Rattle.definition.specs.Orders as orders
+use Rattle.definition.specs.Orders.{Kind, Row, rows, noRow, hasHeader, rowOf, Place, nowhere, inHeader, inByte, inTwoBytes, placeOf, ownLength, megaOf}
 
 -- ---- kinds by number
 

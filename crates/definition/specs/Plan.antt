@@ -8,8 +8,8 @@ use lib.Dec.{ltb, leb}
 use lib.ListN.{length, getD, drop}
 use Rattle.picture.specs.Pixels.{Pixel, pick, firstPixel, pixelAt}
 use Rattle.picture.specs.Sizes.{Refusal, refusal, Frame}
-use Rattle.rle.specs.Orders.{Kind, BgRun, FgRun, FgBgImage, ColorRun, ColorImage, SetFgRun, SetFgBgImage, DitheredRun, SpecialFgBg1, SpecialFgBg2, White, Black, NoOrder, Place, Head, head, noHead, headOf, rowOf, placeOf}
-use Rattle.rle.specs.Decode.{Ink, solid, fgInk, bgInk, insertInk, maskInk, ditherInk, paint, State, state, Step, done, refused}
+use Rattle.definition.specs.Orders.{Kind, BgRun, FgRun, FgBgImage, ColorRun, ColorImage, SetFgRun, SetFgBgImage, DitheredRun, SpecialFgBg1, SpecialFgBg2, White, Black, NoOrder, Place, Head, head, noHead, headOf, rowOf, placeOf}
+use Rattle.definition.specs.Decode.{Ink, solid, fgInk, bgInk, insertInk, maskInk, ditherInk, paint, State, state, Step, done, refused}
 
 -- ---- what an order reads and paints, by counts alone
 

@@ -12,11 +12,11 @@ use borrow.Author.Tests.{leb-true, leb-false, le-leb}
 use Rattle.picture.specs.Pixels.{Pixel, pick, firstPixel}
 use Rattle.picture.specs.Sizes.{Refusal, refusal, Frame}
 use Rattle.picture.proofs.Tests.{by-test}
-use Rattle.rle.specs.Orders.{Kind, BgRun, FgRun, FgBgImage, ColorRun, ColorImage, SetFgRun, SetFgBgImage, DitheredRun, SpecialFgBg1, SpecialFgBg2, White, Black, NoOrder, Head, head, noHead, headOf}
-use Rattle.rle.specs.Decode.{Ink, fgInk, bgInk, paint, bg, State, state, Step, done, withPainted, withLeft, withForeground, completed, room, tooLarge, tooShort, needBytes, paintOrder, setForeground, bgRun, fgRun, setFgRun, colorRun, colorImage, ditheredRun, specialFgBg, fgBgImage, setFgBgImage, orderOf, orderFrom, endFirstRow, step}
-use Rattle.rle.specs.Plan.{Ending, completes, refuses, Counts, counts, behind, withOperands, runCounts, masksFor, noMask, noRoom, imageCounts, countsOf, leavesInsert, newForeground, foregroundBy, insertAfter, ordersAfter, imageInk, kindInk, progressOf, planBy, planFrom, pastFirstRow, planOf, planForeground, planInk, endWith, planState, planStep}
-use Rattle.rle.proofs.Painting.{paint-cong}
-use Rattle.rle.proofs.Masks.{acted, masks-acted}
+use Rattle.definition.specs.Orders.{Kind, BgRun, FgRun, FgBgImage, ColorRun, ColorImage, SetFgRun, SetFgBgImage, DitheredRun, SpecialFgBg1, SpecialFgBg2, White, Black, NoOrder, Head, head, noHead, headOf}
+use Rattle.definition.specs.Decode.{Ink, fgInk, bgInk, paint, bg, State, state, Step, done, withPainted, withLeft, withForeground, completed, room, tooLarge, tooShort, needBytes, paintOrder, setForeground, bgRun, fgRun, setFgRun, colorRun, colorImage, ditheredRun, specialFgBg, fgBgImage, setFgBgImage, orderOf, orderFrom, endFirstRow, step}
+use Rattle.definition.specs.Plan.{Ending, completes, refuses, Counts, counts, behind, withOperands, runCounts, masksFor, noMask, noRoom, imageCounts, countsOf, leavesInsert, newForeground, foregroundBy, insertAfter, ordersAfter, imageInk, kindInk, progressOf, planBy, planFrom, pastFirstRow, planOf, planForeground, planInk, endWith, planState, planStep}
+use Rattle.definition.proofs.Painting.{paint-cong}
+use Rattle.definition.proofs.Masks.{acted, masks-acted}
 
 -- ---- runs, images, and the bytes before them
 

@@ -11,9 +11,9 @@ use borrow.Author.Tests.{leb-true, leb-false, le-leb, lt-leb, eqb-true, eqb-fals
 use Rattle.picture.specs.Pixels.{Pixel}
 use Rattle.picture.specs.Sizes.{refusal, Frame}
 use Rattle.picture.proofs.Tests.{by-test}
-use Rattle.rle.specs.Decode.{Ink, paint, maskInk, fg, bg, State, state, Step, refused, withPainted, withLeft, room, tooLarge, tooShort, completed, oneMask, andThen, masks}
-use Rattle.rle.specs.Plan.{completes, refuses, Counts, counts, masksFor, noMask, noRoom, imageCounts, imageInk, insertAfter, ordersAfter, endWith}
-use Rattle.rle.proofs.Painting.{length-paint, paint-add, paint-cong}
+use Rattle.definition.specs.Decode.{Ink, paint, maskInk, fg, bg, State, state, Step, refused, withPainted, withLeft, room, tooLarge, tooShort, completed, oneMask, andThen, masks}
+use Rattle.definition.specs.Plan.{completes, refuses, Counts, counts, masksFor, noMask, noRoom, imageCounts, imageInk, insertAfter, ordersAfter, endWith}
+use Rattle.definition.proofs.Painting.{length-paint, paint-add, paint-cong}
 
 -- ---- the counts of an image, mask by mask
 

@@ -4,11 +4,11 @@ use mathlib.Core.Path.{_≡_, refl}
 use mathlib.Core.List.{List, [], _∷_, map}
 use Prim.Native.Nat.{ℕ}
 use Rattle.picture.specs.Pixels
-use Rattle.rle.specs.Orders
+use Rattle.definition.specs.Orders
 use Rattle.picture.specs.Sizes
 use Rattle.picture.specs.Sizes.{Refusal, refusal}
-use Rattle.rle.specs.Decode
-use Rattle.rle.specs.Decode.{Result, result}
+use Rattle.definition.specs.Decode
+use Rattle.definition.specs.Decode.{Result, result}
 
 pub record Tile : Type 0 where
   pub bpp : ℕ

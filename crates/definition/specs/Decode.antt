@@ -6,7 +6,7 @@ use Prim.Native.Nat.{ℕ, zero, suc, _+_, _-_, _*_, _/_, _%_, _^_, min}
 use lib.Dec.{ltb, leb, eqb}
 use lib.ListN.{length, getD, drop}
 use Rattle.picture.specs.Sizes.{Refusal, refusal, Frame, Checked, rejected, accepted, checked, withSpace}
-use Rattle.rle.specs.Orders.{Kind, BgRun, FgRun, FgBgImage, ColorRun, ColorImage, SetFgRun, SetFgBgImage, DitheredRun, SpecialFgBg1, SpecialFgBg2, White, Black, NoOrder, Head, head, noHead, headOf}
+use Rattle.definition.specs.Orders.{Kind, BgRun, FgRun, FgBgImage, ColorRun, ColorImage, SetFgRun, SetFgBgImage, DitheredRun, SpecialFgBg1, SpecialFgBg2, White, Black, NoOrder, Head, head, noHead, headOf}
 use Rattle.picture.specs.Pixels.{Pixel, pick, firstPixel, pixelAt, xorPixel}
 
 -- ---- painting

@@ -10,14 +10,14 @@ use lib.Seq.{getD-drop}
 use borrow.Author.Tests.{leb-true, eqb-false}
 use Rattle.picture.specs.Sizes.{Refusal, Frame}
 use Rattle.picture.proofs.Tests.{by-test}
-use Rattle.rle.specs.Orders.{Kind, BgRun, FgRun, FgBgImage, ColorRun, ColorImage, SetFgRun, SetFgBgImage, DitheredRun, SpecialFgBg1, SpecialFgBg2, White, Black, NoOrder, Place, nowhere, inHeader, inByte, inTwoBytes, rowOf, placeOf, ownLength, megaOf, RunLength, runLength, noLength, withBytes, megaLength, megaMegaLength, lengthAt, lengthOf, headed, headOf}
-use Rattle.rle.specs.Decode.{State, start, Run, ended, paused, stopped, atEnd, thenRun, run, decode}
-use Rattle.rle.specs.Plan.{Ending, completes, refuses, Counts, behind, withOperands, runCounts, imageCounts, countsOf, progressOf, planBy, planFrom, pastFirstRow, planOf, endWith, planState, planStep}
-use Rattle.rle.specs.Codes.{kindNumber}
-use Rattle.rle.proofs.Painting.{length-paint}
-use Rattle.rle.proofs.Lengths.{Tested, tested, mega-range}
-use Rattle.rle.proofs.Masks.{image-most}
-use Rattle.rle.proofs.Planned.{Within, orders-few, refuses-none, kind-within, step-planned}
+use Rattle.definition.specs.Orders.{Kind, BgRun, FgRun, FgBgImage, ColorRun, ColorImage, SetFgRun, SetFgBgImage, DitheredRun, SpecialFgBg1, SpecialFgBg2, White, Black, NoOrder, Place, nowhere, inHeader, inByte, inTwoBytes, rowOf, placeOf, ownLength, megaOf, RunLength, runLength, noLength, withBytes, megaLength, megaMegaLength, lengthAt, lengthOf, headed, headOf}
+use Rattle.definition.specs.Decode.{State, start, Run, ended, paused, stopped, atEnd, thenRun, run, decode}
+use Rattle.definition.specs.Plan.{Ending, completes, refuses, Counts, behind, withOperands, runCounts, imageCounts, countsOf, progressOf, planBy, planFrom, pastFirstRow, planOf, endWith, planState, planStep}
+use Rattle.definition.specs.Codes.{kindNumber}
+use Rattle.definition.proofs.Painting.{length-paint}
+use Rattle.definition.proofs.Headers.{Tested, tested, mega-range}
+use Rattle.definition.proofs.Masks.{image-most}
+use Rattle.definition.proofs.Planned.{Within, orders-few, refuses-none, kind-within, step-planned}
 
 -- ---- counts
 

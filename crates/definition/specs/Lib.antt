@@ -1,0 +1,5 @@
+pub mod Orders
+pub mod Decode
+pub mod Plan
+pub mod Codes
+pub mod Tiles
