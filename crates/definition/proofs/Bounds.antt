@@ -10,14 +10,14 @@ use lib.Seq.{getD-drop}
 use borrow.Author.Tests.{leb-true, eqb-false}
 use Rattle.picture.specs.Sizes.{Refusal, Frame}
 use Rattle.picture.proofs.Tests.{by-test}
-use Rattle.definition.specs.Orders.{Kind, BgRun, FgRun, FgBgImage, ColorRun, ColorImage, SetFgRun, SetFgBgImage, DitheredRun, SpecialFgBg1, SpecialFgBg2, White, Black, NoOrder, Place, nowhere, inHeader, inByte, inTwoBytes, rowOf, placeOf, ownLength, megaOf, RunLength, runLength, noLength, withBytes, megaLength, megaMegaLength, lengthAt, lengthOf, headed, headOf}
-use Rattle.definition.specs.Decode.{State, start, Run, ended, paused, stopped, atEnd, thenRun, run, decode}
-use Rattle.definition.specs.Plan.{Ending, completes, refuses, Counts, behind, withOperands, runCounts, imageCounts, countsOf, progressOf, planBy, planFrom, pastFirstRow, planOf, endWith, planState, planStep}
+use Rattle.definition.specs.Orders.{Kind, BgRun, FgRun, FgBgImage, ColorRun, ColorImage, SetFgRun, SetFgBgImage, DitheredRun, SpecialFgBg1, SpecialFgBg2, White, Black, NoOrder, Place, nowhere, inHeader, inByte, inTwoBytes, rowOf, placeOf, ownLength, megaOf, RunLength, runLength, refused, withBytes, megaLength, megaMegaLength, lengthAt, lengthOf, headed, headOf}
+use Rattle.definition.specs.Decode.{State, start, Run, ended, paused, refused, atEnd, thenRun, run, decode}
+use Rattle.definition.specs.Plan.{Ending, complete, refused, Counts, behind, withOperands, runCounts, imageCounts, countsOf, progressOf, planBy, planFrom, pastFirstRow, planOf, endWith, planState, planStep}
 use Rattle.definition.specs.Codes.{kindNumber}
 use Rattle.definition.proofs.Painting.{length-paint}
 use Rattle.definition.proofs.Headers.{Tested, tested, mega-range}
 use Rattle.definition.proofs.Masks.{image-most}
-use Rattle.definition.proofs.Planned.{Within, orders-few, refuses-none, kind-within, step-planned}
+use Rattle.definition.proofs.Planned.{Within, orders-few, refused-none, kind-within, step-planned}
 
 -- ---- counts
 
@@ -68,7 +68,7 @@ bytes-drop k l h i = rw getD-drop (h (k + i))
 -- a run length behind the first k bytes of l
 data Read (l : List ℕ) : RunLength → Type 0 where
   read : (k n : ℕ) → k ≤ length l → k ≤ 3 → 1 ≤ n → n ≤ 21845 * k → Read l (runLength n (drop k l))
-  unread : {r : Refusal} (k : ℕ) → k ≤ length l → Read l (noLength r (drop k l))
+  unread : {r : Refusal} (k : ℕ) → k ≤ length l → Read l (refused r (drop k l))
 
 module _ (h : ℕ) (rest : List ℕ) (octets : Bytes (h ∷ rest)) where
   with-bytes : (k : ℕ) {x : RunLength} → (k ≤ length rest → Read (h ∷ rest) x) → Read (h ∷ rest) (withBytes k rest x)
@@ -111,7 +111,7 @@ record Bounded (N : ℕ) (s : State) : Type 0 where
 abbrev pub last : Run → State
 last (ended s) = s
 last (paused s) = s
-last (stopped r s) = s
+last (refused r s) = s
 
 module _ (f : Frame) (low : 1 ≤ f .bytes) (N : ℕ) where
   -- the counts c behind j bytes
@@ -131,7 +131,7 @@ module _ (f : Frame) (low : 1 ≤ f .bytes) (N : ℕ) where
   read-bounded s h k b (read j n there few some most) =
       counts-bounded s h n j k _ b there (kind-within (f .bytes) k n _ _ some) (kind-paid (f .bytes) n _ _ j low most few k)
   read-bounded s h k b (unread j there) =
-      counts-bounded s h 0 j NoOrder _ {R = 0} b there (record { read = omega arith; pixels = omega arith; some = refuses-none })
+      counts-bounded s h 0 j NoOrder _ {R = 0} b there (record { read = omega arith; pixels = omega arith; some = refused-none })
       (record { most = omega arith })
 
   -- ---- the whole stream
@@ -144,8 +144,8 @@ module _ (f : Frame) (low : 1 ≤ f .bytes) (N : ℕ) where
   end-bounded : (go : State → Run) → ((t : State) → Bounded N t → Bounded N (last (go t))) → (e : Ending) {s : State} → Bounded N s
       → Bounded N (last (thenRun go (endWith e s)))
   unfolding thenRun endWith
-  end-bounded go next completes b = next _ b
-  end-bounded go next (refuses r) b = b
+  end-bounded go next complete b = next _ b
+  end-bounded go next (refused r) b = b
 
   run-bounded : (n : ℕ) (s : State) → Bounded N s → Bounded N (last (run f n s))
   unfolding run planStep planOf headOf progressOf

@@ -12,7 +12,7 @@ use Rattle.picture.specs.Pixels.{Pixel}
 use Rattle.picture.specs.Sizes.{refusal, Frame}
 use Rattle.picture.proofs.Tests.{by-test}
 use Rattle.definition.specs.Decode.{Ink, paint, maskInk, fg, bg, State, state, Step, refused, withPainted, withLeft, room, tooLarge, tooShort, completed, oneMask, andThen, masks}
-use Rattle.definition.specs.Plan.{completes, refuses, Counts, counts, masksFor, noMask, noRoom, imageCounts, imageInk, insertAfter, ordersAfter, endWith}
+use Rattle.definition.specs.Plan.{complete, refused, Counts, counts, masksFor, noMask, noRoom, imageCounts, imageInk, insertAfter, ordersAfter, endWith}
 use Rattle.definition.proofs.Painting.{length-paint, paint-add, paint-cong}
 
 -- ---- the counts of an image, mask by mask
@@ -21,21 +21,21 @@ use Rattle.definition.proofs.Painting.{length-paint, paint-add, paint-c
 abbrev maskBefore : ℕ → Counts → Counts
 maskBefore k c = counts (suc (c .read)) (k + c .pixels) (c .ending)
 
-image-done : (D n a R : ℕ) → n ≡ 0 → imageCounts D n a R ≡ counts 0 0 completes
+image-done : (D n a R : ℕ) → n ≡ 0 → imageCounts D n a R ≡ counts 0 0 complete
 unfolding imageCounts masksFor
 image-done D n a R e = rw (e, le-leb 0 R (omega arith), le-leb 0 a (omega arith))
 
 -- no mask is left
-image-short : (D n R : ℕ) → 1 ≤ n → imageCounts D n 0 R ≡ counts 0 0 (refuses (refusal 6 1 0))
+image-short : (D n R : ℕ) → 1 ≤ n → imageCounts D n 0 R ≡ counts 0 0 (refused (refusal 6 1 0))
 unfolding imageCounts noMask masksFor
 image-short D n R some =
-    by-test (λ (x : Counts). x ≡ counts 0 0 (refuses (refusal 6 1 0))) (leb n R)
+    by-test (λ (x : Counts). x ≡ counts 0 0 (refused (refusal 6 1 0))) (leb n R)
     (λ e. rw (lt-leb ((n + 7) / 8) 0 (omega arith)))
     (λ e. rw (le-leb 0 (R / 8) (omega arith)))
 
 -- the next mask has no room
 image-large : (D n a R : ℕ) → 1 ≤ n → R < min 8 n
-    → imageCounts D n (suc a) R ≡ counts 1 0 (refuses (refusal 7 (R * D) (min 8 n * D)))
+    → imageCounts D n (suc a) R ≡ counts 1 0 (refused (refusal 7 (R * D) (min 8 n * D)))
 unfolding imageCounts noRoom
 image-large D n a R some over =
     let z : R / 8 ≡ 0 = omega arith in
@@ -51,7 +51,7 @@ no-room-next D n R k eight h =
     let p : R / 8 * 8 ≡ 8 + (R - 8) / 8 * 8 = omega arith in
     let r : R % 8 ≡ (R - 8) % 8 = omega arith in
     let m : n - R / 8 * 8 ≡ n - 8 - (R - 8) / 8 * 8 = omega arith in
-    rw eight (λ i. counts (suc (q i)) (p i) (refuses (refusal 7 (r i * D) (min 8 (m i) * D))))
+    rw eight (λ i. counts (suc (q i)) (p i) (refused (refusal 7 (r i * D) (min 8 (m i) * D))))
 
 -- the next mask is painted
 image-next : (D n a R : ℕ) → 1 ≤ n → min 8 n ≤ R
@@ -67,12 +67,12 @@ image-next D n a R some fits =
     let q : (n + 7) / 8 ≡ suc ((n - min 8 n + 7) / 8) = omega arith in
     let p : n ≡ min 8 n + (n - min 8 n) = omega arith in
     rw (le-leb (n - min 8 n) (R - min 8 n) (omega arith), le-leb ((n - min 8 n + 7) / 8) a (omega arith))
-    (λ i. counts (q i) (p i) completes))
+    (λ i. counts (q i) (p i) complete))
     (λ u.
     let missing : suc a < (n + 7) / 8 = leb-false ((n + 7) / 8) (suc a) u in
     let p : suc a * 8 ≡ min 8 n + a * 8 = omega arith in
     rw (le-leb (n - min 8 n) (R - min 8 n) (omega arith), lt-leb ((n - min 8 n + 7) / 8) a (omega arith))
-    (λ i. counts (suc a) (p i) (refuses (refusal 6 1 0)))))
+    (λ i. counts (suc a) (p i) (refused (refusal 6 1 0)))))
     (λ e.
     let over : R < n = leb-false n R e in
     by-test Same (leb (suc a) (R / 8))
@@ -80,7 +80,7 @@ image-next D n a R some fits =
     let missing : suc a ≤ R / 8 = leb-true (suc a) (R / 8) u in
     let p : suc a * 8 ≡ min 8 n + a * 8 = omega arith in
     rw (lt-leb (n - min 8 n) (R - min 8 n) (omega arith), le-leb a ((R - min 8 n) / 8) (omega arith))
-    (λ i. counts (suc a) (p i) (refuses (refusal 6 1 0))))
+    (λ i. counts (suc a) (p i) (refused (refusal 6 1 0))))
     (λ u.
     let enough : R / 8 < suc a = leb-false (suc a) (R / 8) u in
     rw (lt-leb (n - min 8 n) (R - min 8 n) (omega arith), lt-leb a ((R - min 8 n) / 8) (omega arith))

@@ -12,9 +12,9 @@ use borrow.Author.Tests.{leb-true, leb-false, le-leb}
 use Rattle.picture.specs.Pixels.{Pixel, pick, firstPixel}
 use Rattle.picture.specs.Sizes.{Refusal, refusal, Frame}
 use Rattle.picture.proofs.Tests.{by-test}
-use Rattle.definition.specs.Orders.{Kind, BgRun, FgRun, FgBgImage, ColorRun, ColorImage, SetFgRun, SetFgBgImage, DitheredRun, SpecialFgBg1, SpecialFgBg2, White, Black, NoOrder, Head, head, noHead, headOf}
+use Rattle.definition.specs.Orders.{Kind, BgRun, FgRun, FgBgImage, ColorRun, ColorImage, SetFgRun, SetFgBgImage, DitheredRun, SpecialFgBg1, SpecialFgBg2, White, Black, NoOrder, Head, head, refused, headOf}
 use Rattle.definition.specs.Decode.{Ink, fgInk, bgInk, paint, bg, State, state, Step, done, withPainted, withLeft, withForeground, completed, room, tooLarge, tooShort, needBytes, paintOrder, setForeground, bgRun, fgRun, setFgRun, colorRun, colorImage, ditheredRun, specialFgBg, fgBgImage, setFgBgImage, orderOf, orderFrom, endFirstRow, step}
-use Rattle.definition.specs.Plan.{Ending, completes, refuses, Counts, counts, behind, withOperands, runCounts, masksFor, noMask, noRoom, imageCounts, countsOf, leavesInsert, newForeground, foregroundBy, insertAfter, ordersAfter, imageInk, kindInk, progressOf, planBy, planFrom, pastFirstRow, planOf, planForeground, planInk, endWith, planState, planStep}
+use Rattle.definition.specs.Plan.{Ending, complete, refused, Counts, counts, behind, withOperands, runCounts, masksFor, noMask, noRoom, imageCounts, countsOf, leavesInsert, newForeground, foregroundBy, insertAfter, ordersAfter, imageInk, kindInk, progressOf, planBy, planFrom, pastFirstRow, planOf, planForeground, planInk, endWith, planState, planStep, leaves, insertIn, foregroundIn}
 use Rattle.definition.proofs.Painting.{paint-cong}
 use Rattle.definition.proofs.Masks.{acted, masks-acted}
 
@@ -28,7 +28,7 @@ run-acted f i ink n s = go (leb n (room f s))
     go : (b : Bool)
         → pick b (done (completed i (withPainted (paint (f .width) ink n (s .painted)) s))) (tooLarge f n s)
         ≡ acted f i ink (s .foreground)
-        (pick b (counts 0 n completes) (counts 0 0 (refuses (refusal 7 (room f s * f .bytes) (n * f .bytes))))) s
+        (pick b (counts 0 n complete) (counts 0 0 (refused (refusal 7 (room f s * f .bytes) (n * f .bytes))))) s
     go true = refl
     go false = refl
 
@@ -43,7 +43,7 @@ module _ (f : Frame) (s : State) (d : ℕ) (p q : Pixel) (ink ink′ : ℕ → I
     where
       go : (b : Bool) → (b ≡ true → (p ≡ q) × ((k : ℕ) → ink k ≡ ink′ k)) → (b ≡ false → s .foreground ≡ q)
           → pick b (acted f i ink p c (withLeft (drop d (s .left)) (withForeground p s))) (tooShort d s)
-          ≡ acted f i ink′ q (pick b (behind d c) (counts 0 0 (refuses (refusal 6 d (length (s .left)))))) s
+          ≡ acted f i ink′ q (pick b (behind d c) (counts 0 0 (refused (refusal 6 d (length (s .left)))))) s
       go true h g =
           let l = drop-drop (c .read) d (s .left) in
           let ps = paint-cong (f .width) ink ink′ (c .pixels) (s .painted) (λ k b. h refl .1 k) in
@@ -90,7 +90,7 @@ module _ (f : Frame) (n : ℕ) (s : State) where
   operands d m ink = run-behind f s d (s .foreground) (s .foreground) ink ink (λ e. (refl, λ k. refl)) (λ e. refl) m
 
   set-image : Acts f n s SetFgBgImage
-  unfolding orderOf setFgBgImage fgBgImage setForeground countsOf kindInk leavesInsert foregroundBy room withLeft withForeground
+  unfolding orderOf setFgBgImage fgBgImage setForeground countsOf kindInk insertIn foregroundIn room withLeft withForeground leaves
   set-image =
       let l = s .left in
       let p = firstPixel (f .bytes) l in
@@ -102,7 +102,7 @@ module _ (f : Frame) (n : ℕ) (s : State) where
       (imageCounts (f .bytes) n (length l - f .bytes) (room f s))
 
   pub kind-acted : (k : Kind) → Acts f n s k
-  unfolding orderOf bgRun fgRun setFgRun setForeground colorRun ditheredRun colorImage specialFgBg fgBgImage countsOf kindInk leavesInsert foregroundBy acted endWith insertAfter ordersAfter paint withLeft withForeground
+  unfolding orderOf bgRun fgRun setFgRun setForeground colorRun ditheredRun colorImage specialFgBg fgBgImage countsOf kindInk insertIn foregroundIn acted endWith insertAfter ordersAfter paint withLeft withForeground leaves
   kind-acted BgRun = run-acted f true _ n s
   kind-acted FgRun = run-acted f false _ n s
   kind-acted FgBgImage = masks-acted f (s .left) n s refl
@@ -122,9 +122,9 @@ module _ (f : Frame) (n : ℕ) (s : State) where
 -- ---- one order
 
 head-planned : (f : Frame) (h : ℕ) (s : State) (x : Head) → orderFrom f (endFirstRow f s) x ≡ planStep f s (planFrom f h (pastFirstRow f (progressOf s)) x)
-unfolding orderFrom endFirstRow planFrom planBy planState planStep planInk planForeground foregroundBy pastFirstRow progressOf acted endWith insertAfter ordersAfter room paint withLeft
+unfolding orderFrom endFirstRow planFrom planBy planState planStep planInk planForeground foregroundIn pastFirstRow progressOf acted endWith insertAfter ordersAfter room paint withLeft leaves
 head-planned f h s (head k n rest) = kind-acted f n (withLeft rest (endFirstRow f s)) k
-head-planned f h s (noHead r rest) = refl
+head-planned f h s (refused r rest) = refl
 
 -- an order is its plan carried out
 pub step-planned : (f : Frame) (s : State) → step f s ≡ planStep f s (planOf f (progressOf s))
@@ -146,17 +146,17 @@ image-counts D false n a R = rw (sub-zero, le-leb 0 a (omega arith), zero-add)
 pub record Within (a R : ℕ) (c : Counts) : Type 0 where
   pub read : c .read ≤ a
   pub pixels : c .pixels ≤ R
-  pub some : c .ending ≡ completes → 1 ≤ c .pixels
+  pub some : c .ending ≡ complete → 1 ≤ c .pixels
 
-pub refuses-none : {r : Refusal} {A : Type 0} → refuses r ≡ completes → A
-refuses-none e = absurd (let z : _≡_ {A = ℕ} 0 1 = cc in omega arith)
+pub refused-none : {r : Refusal} {A : Type 0} → refused r ≡ complete → A
+refused-none e = absurd (let z : _≡_ {A = ℕ} 0 1 = cc in omega arith)
 
 run-within : (D n a R : ℕ) → 1 ≤ n → Within a R (runCounts D n R)
 unfolding runCounts
 run-within D n a R one =
     by-test (λ (c : Counts). Within a R c) (leb n R)
     (λ e. record { read = omega arith; pixels = leb-true n R e; some = λ _. one })
-    (λ e. record { read = omega arith; pixels = omega arith; some = refuses-none })
+    (λ e. record { read = omega arith; pixels = omega arith; some = refused-none })
 
 image-within : (D n a R : ℕ) → 1 ≤ n → Within a R (imageCounts D n a R)
 unfolding imageCounts noMask noRoom masksFor
@@ -166,10 +166,10 @@ image-within D n a R one =
     let fits = leb-true n R e in
     by-test In (leb ((n + 7) / 8) a)
     (λ u. record { read = leb-true ((n + 7) / 8) a u; pixels = fits; some = λ _. one })
-    (λ u. record { read = omega arith; pixels = omega (arith, leb-false ((n + 7) / 8) a u); some = refuses-none }))
+    (λ u. record { read = omega arith; pixels = omega (arith, leb-false ((n + 7) / 8) a u); some = refused-none }))
     (λ e. by-test In (leb a (R / 8))
-    (λ u. record { read = omega arith; pixels = omega (arith, leb-true a (R / 8) u); some = refuses-none })
-    (λ u. record { read = leb-false a (R / 8) u; pixels = omega arith; some = refuses-none }))
+    (λ u. record { read = omega arith; pixels = omega (arith, leb-true a (R / 8) u); some = refused-none })
+    (λ u. record { read = leb-false a (R / 8) u; pixels = omega arith; some = refused-none }))
   where
     In : Counts → Type 0
     In c = Within a R c
@@ -179,7 +179,7 @@ unfolding withOperands behind
 behind-within d a R c h =
     by-test (λ (x : Counts). Within a R x) (leb d a)
     (λ e. record { read = omega (arith, leb-true d a e, h .read); pixels = h .pixels; some = h .some })
-    (λ e. record { read = omega arith; pixels = omega arith; some = refuses-none })
+    (λ e. record { read = omega arith; pixels = omega arith; some = refused-none })
 
 pub kind-within : (D : ℕ) (k : Kind) (n a R : ℕ) → 1 ≤ n → Within a R (countsOf D k n a R)
 unfolding countsOf
@@ -195,13 +195,13 @@ kind-within D SpecialFgBg1 n a R one = run-within D n a R one
 kind-within D SpecialFgBg2 n a R one = run-within D n a R one
 kind-within D White n a R one = run-within D n a R one
 kind-within D Black n a R one = run-within D n a R one
-kind-within D NoOrder n a R one = record { read = omega arith; pixels = omega arith; some = refuses-none }
+kind-within D NoOrder n a R one = record { read = omega arith; pixels = omega arith; some = refused-none }
 
 -- so no more orders are completed than pixels painted
-pub orders-few : (e : Ending) {o p k : ℕ} → o ≤ p → (e ≡ completes → 1 ≤ k) → ordersAfter e o ≤ p + k
+pub orders-few : (e : Ending) {o p k : ℕ} → o ≤ p → (e ≡ complete → 1 ≤ k) → ordersAfter e o ≤ p + k
 unfolding ordersAfter
-orders-few completes h some = omega (arith, some refl)
-orders-few (refuses r) h some = omega arith
+orders-few complete h some = omega (arith, some refl)
+orders-few (refused r) h some = omega arith
 
 -- ---- what its pixels ask of its operands
 

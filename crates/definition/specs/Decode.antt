@@ -6,7 +6,7 @@ use Prim.Native.Nat.{ℕ, zero, suc, _+_, _-_, _*_, _/_, _%_, _^_, min}
 use lib.Dec.{ltb, leb, eqb}
 use lib.ListN.{length, getD, drop}
 use Rattle.picture.specs.Sizes.{Refusal, refusal, Frame, Checked, rejected, accepted, checked, withSpace}
-use Rattle.definition.specs.Orders.{Kind, BgRun, FgRun, FgBgImage, ColorRun, ColorImage, SetFgRun, SetFgBgImage, DitheredRun, SpecialFgBg1, SpecialFgBg2, White, Black, NoOrder, Head, head, noHead, headOf}
+use Rattle.definition.specs.Orders.{Kind, BgRun, FgRun, FgBgImage, ColorRun, ColorImage, SetFgRun, SetFgBgImage, DitheredRun, SpecialFgBg1, SpecialFgBg2, White, Black, NoOrder, Head, head, headOf}
 use Rattle.picture.specs.Pixels.{Pixel, pick, firstPixel, pixelAt, xorPixel}
 
 -- ---- painting
@@ -190,7 +190,7 @@ orderOf f NoOrder n s = refused (refusal 5 0 0) s
 
 unfoldable pub orderFrom : Frame → State → Head → Step
 orderFrom f s (head k n rest) = orderOf f k n (withLeft rest s)
-orderFrom f s (noHead r rest) = refused r (withLeft rest s)
+orderFrom f s (Head.refused r rest) = refused r (withLeft rest s)
 
 -- the first row ends for good at an order's start with at least one row painted, and a pending insert is dropped
 unfoldable pub endFirstRow : Frame → State → State
@@ -208,7 +208,7 @@ step f s = orderFrom f (endFirstRow f s) (headOf (s .left))
 pub data Run : Type 0 where
   ended : State → Run
   paused : State → Run
-  stopped : Refusal → State → Run
+  refused : Refusal → State → Run
 
 unfoldable pub atEnd : List ℕ → Run → Run → Run
 atEnd [] a b = a
@@ -216,7 +216,7 @@ atEnd (x ∷ xs) a b = b
 
 unfoldable pub thenRun : (State → Run) → Step → Run
 thenRun go (done s) = go s
-thenRun go (refused r s) = stopped r s
+thenRun go (refused r s) = refused r s
 
 -- at most n orders
 unfoldable pub run : Frame → ℕ → State → Run
@@ -244,7 +244,7 @@ resultOf r k D s = record { refusal = r; format = k; bytes = D; painted = s .pai
 unfoldable pub ofRun : Frame → ℕ → Run → Result
 ofRun f k (ended s) = resultOf (refusal 0 0 0) k (f .bytes) s
 ofRun f k (paused s) = resultOf (refusal 0 0 0) 0 (f .bytes) s
-ofRun f k (stopped r s) = resultOf r 0 (f .bytes) s
+ofRun f k (refused r s) = resultOf r 0 (f .bytes) s
 
 unfoldable pub ofChecked : List ℕ → Checked → Result
 ofChecked stream (rejected r) = record { refusal = r; format = 0; bytes = 0; painted = []; orders = 0 }
@@ -257,3 +257,17 @@ result stream bpp w h = ofChecked stream (checked bpp w h)
 -- the same with refusal 4 tested beside it, of which only the target's length is seen
 unfoldable pub resultIn : ℕ → List ℕ → ℕ → ℕ → ℕ → Result
 resultIn given stream bpp w h = ofChecked stream (withSpace given (checked bpp w h))
+
+-- ---- what a report says of a result
+
+pub record Summary : Type 0 where
+  pub refusal : Refusal
+  pub format : ℕ
+  pub pixels : ℕ
+  pub orders : ℕ
+
+abbrev pub summary : Refusal → ℕ → ℕ → ℕ → Summary
+summary refusal format pixels orders = record { refusal = refusal; format = format; pixels = pixels; orders = orders }
+
+abbrev pub summaryOf : Result → Summary
+summaryOf e = summary (e .refusal) (e .format) (length (e .painted)) (e .orders)

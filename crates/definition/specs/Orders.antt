@@ -96,11 +96,11 @@ placeOf r h = placeIn h (r .size) (r .lengths)
 -- a run length with the stream's bytes left after it, or a refusal
 pub data RunLength : Type 0 where
   runLength : ℕ → List ℕ → RunLength
-  noLength : Refusal → List ℕ → RunLength
+  refused : Refusal → List ℕ → RunLength
 
 -- l where k bytes are left, else refusal 6
 unfoldable pub withBytes : ℕ → List ℕ → RunLength → RunLength
-withBytes k rest l = pick (leb k (length rest)) l (noLength (refusal 6 k (length rest)) rest)
+withBytes k rest l = pick (leb k (length rest)) l (refused (refusal 6 k (length rest)) rest)
 
 unfoldable pub megaLength : ℕ → List ℕ → RunLength
 megaLength mega rest = withBytes 1 rest (runLength (getD rest 0 0 + mega) (drop 1 rest))
@@ -108,7 +108,7 @@ megaLength mega rest = withBytes 1 rest (runLength (getD rest 0 0 + mega) (drop 
 unfoldable pub megaMegaLength : List ℕ → RunLength
 megaMegaLength rest =
     let n = getD rest 0 0 + getD rest 1 0 * 256 in
-    withBytes 2 rest (pick (eqb n 0) (noLength (refusal 8 0 0) (drop 2 rest)) (runLength n (drop 2 rest)))
+    withBytes 2 rest (pick (eqb n 0) (refused (refusal 8 0 0) (drop 2 rest)) (runLength n (drop 2 rest)))
 
 -- the header's own length, where it stands there or nowhere
 unfoldable pub ownLength : ℕ → ℕ → Lengths → ℕ
@@ -133,11 +133,11 @@ lengthOf r h rest = lengthAt (placeOf r h) (ownLength h (r .size) (r .lengths)) 
 -- an order's kind, its run length, and the bytes left; or a refusal
 pub data Head : Type 0 where
   head : Kind → ℕ → List ℕ → Head
-  noHead : Refusal → List ℕ → Head
+  refused : Refusal → List ℕ → Head
 
 unfoldable pub headed : Kind → RunLength → Head
 headed k (runLength n rest) = head k n rest
-headed k (noLength r rest) = noHead r rest
+headed k (refused r rest) = refused r rest
 
 -- the start of a stream with a byte left
 unfoldable pub headOf : List ℕ → Head

@@ -8,14 +8,14 @@ use lib.Dec.{ltb, leb}
 use lib.ListN.{length, getD, drop}
 use Rattle.picture.specs.Pixels.{Pixel, pick, firstPixel, pixelAt}
 use Rattle.picture.specs.Sizes.{Refusal, refusal, Frame}
-use Rattle.definition.specs.Orders.{Kind, BgRun, FgRun, FgBgImage, ColorRun, ColorImage, SetFgRun, SetFgBgImage, DitheredRun, SpecialFgBg1, SpecialFgBg2, White, Black, NoOrder, Place, Head, head, noHead, headOf, rowOf, placeOf}
-use Rattle.definition.specs.Decode.{Ink, solid, fgInk, bgInk, insertInk, maskInk, ditherInk, paint, State, state, Step, done, refused}
+use Rattle.definition.specs.Orders.{Kind, BgRun, FgRun, FgBgImage, ColorRun, ColorImage, SetFgRun, SetFgBgImage, DitheredRun, SpecialFgBg1, SpecialFgBg2, White, Black, NoOrder, Place, Head, head, headOf, rowOf, placeOf}
+use Rattle.definition.specs.Decode.{Ink, solid, fgInk, bgInk, insertInk, maskInk, ditherInk, paint, State, state, Step, done}
 
 -- ---- what an order reads and paints, by counts alone
 
 pub data Ending : Type 0 where
-  completes : Ending
-  refuses : Refusal → Ending
+  complete : Ending
+  refused : Refusal → Ending
 
 -- bytes read behind the run length, pixels painted, and the order's end
 pub record Counts : Type 0 where
@@ -32,11 +32,11 @@ behind d c = counts (d + c .read) (c .pixels) (c .ending)
 
 -- c behind d operand bytes where so many of the a bytes left are there, else refusal 6
 unfoldable pub withOperands : ℕ → ℕ → Counts → Counts
-withOperands d a c = pick (leb d a) (behind d c) (counts 0 0 (refuses (refusal 6 d a)))
+withOperands d a c = pick (leb d a) (behind d c) (counts 0 0 (refused (refusal 6 d a)))
 
 -- n pixels of D bytes into a room of R pixels: all of them or none
 unfoldable pub runCounts : ℕ → ℕ → ℕ → Counts
-runCounts D n R = pick (leb n R) (counts 0 n completes) (counts 0 0 (refuses (refusal 7 (R * D) (n * D))))
+runCounts D n R = pick (leb n R) (counts 0 n complete) (counts 0 0 (refused (refusal 7 (R * D) (n * D))))
 
 -- the masks of n pixels, eight to a mask
 unfoldable pub masksFor : ℕ → ℕ
@@ -44,16 +44,16 @@ masksFor n = (n + 7) / 8
 
 -- an image that ends behind all of the a masks left, each with its eight pixels
 unfoldable pub noMask : ℕ → Counts
-noMask a = counts a (a * 8) (refuses (refusal 6 1 0))
+noMask a = counts a (a * 8) (refused (refusal 6 1 0))
 
 -- an image that ends at the first mask without room: R / 8 masks have theirs
 unfoldable pub noRoom : ℕ → ℕ → ℕ → Counts
-noRoom D n R = counts (suc (R / 8)) (R / 8 * 8) (refuses (refusal 7 (R % 8 * D) (min 8 (n - R / 8 * 8) * D)))
+noRoom D n R = counts (suc (R / 8)) (R / 8 * 8) (refused (refusal 7 (R % 8 * D) (min 8 (n - R / 8 * 8) * D)))
 
 -- an fg/bg image of n pixels with a masks left: it paints mask by mask, until a mask or its room is missing
 unfoldable pub imageCounts : ℕ → ℕ → ℕ → ℕ → Counts
 imageCounts D n a R =
-    pick (leb n R) (pick (leb (masksFor n) a) (counts (masksFor n) n completes) (noMask a))
+    pick (leb n R) (pick (leb (masksFor n) a) (counts (masksFor n) n complete) (noMask a))
     (pick (leb a (R / 8)) (noMask a) (noRoom D n R))
 
 -- an order of run length n, with a bytes left and a room of R pixels, of D bytes each
@@ -70,53 +70,60 @@ countsOf D SpecialFgBg1 n a R = runCounts D n R
 countsOf D SpecialFgBg2 n a R = runCounts D n R
 countsOf D White n a R = runCounts D n R
 countsOf D Black n a R = runCounts D n R
-countsOf D NoOrder n a R = counts 0 0 (refuses (refusal 5 0 0))
+countsOf D NoOrder n a R = counts 0 0 (refused (refusal 5 0 0))
 
 -- ---- what an order leaves besides its pixels
 
-unfoldable pub leavesInsert : Kind → Bool
-leavesInsert BgRun = true
-leavesInsert FgRun = false
-leavesInsert FgBgImage = false
-leavesInsert ColorRun = false
-leavesInsert ColorImage = false
-leavesInsert SetFgRun = false
-leavesInsert SetFgBgImage = false
-leavesInsert DitheredRun = false
-leavesInsert SpecialFgBg1 = false
-leavesInsert SpecialFgBg2 = false
-leavesInsert White = false
-leavesInsert Black = false
-leavesInsert NoOrder = false
+-- a pending insert, a foreground that stands first in its operands, or neither
+pub data Left : Type 0 where
+  anInsert : Left
+  aForeground : Left
+  nothing : Left
+
+unfoldable pub leaves : Kind → Left
+leaves BgRun = anInsert
+leaves FgRun = nothing
+leaves FgBgImage = nothing
+leaves ColorRun = nothing
+leaves ColorImage = nothing
+leaves SetFgRun = aForeground
+leaves SetFgBgImage = aForeground
+leaves DitheredRun = nothing
+leaves SpecialFgBg1 = nothing
+leaves SpecialFgBg2 = nothing
+leaves White = nothing
+leaves Black = nothing
+leaves NoOrder = nothing
+
+unfoldable pub insertIn : Left → Bool
+insertIn anInsert = true
+insertIn aForeground = false
+insertIn nothing = false
 
 -- a foreground that stands first in the operands, where its D bytes are there
 unfoldable pub newForeground : ℕ → Pixel → List ℕ → Pixel
 newForeground D p operands = pick (leb D (length operands)) (firstPixel D operands) p
 
--- the foreground after an order, from the one before and the bytes from its operands on
-unfoldable pub foregroundBy : ℕ → Kind → Pixel → List ℕ → Pixel
-foregroundBy D BgRun p operands = p
-foregroundBy D FgRun p operands = p
-foregroundBy D FgBgImage p operands = p
-foregroundBy D ColorRun p operands = p
-foregroundBy D ColorImage p operands = p
-foregroundBy D SetFgRun p operands = newForeground D p operands
-foregroundBy D SetFgBgImage p operands = newForeground D p operands
-foregroundBy D DitheredRun p operands = p
-foregroundBy D SpecialFgBg1 p operands = p
-foregroundBy D SpecialFgBg2 p operands = p
-foregroundBy D White p operands = p
-foregroundBy D Black p operands = p
-foregroundBy D NoOrder p operands = p
+-- the foreground after it, from the one before and the bytes from its operands on
+unfoldable pub foregroundIn : ℕ → Left → Pixel → List ℕ → Pixel
+foregroundIn D anInsert p operands = p
+foregroundIn D aForeground p operands = newForeground D p operands
+foregroundIn D nothing p operands = p
+
+abbrev pub leavesInsert : Kind → Bool
+leavesInsert k = insertIn (leaves k)
+
+abbrev pub foregroundBy : ℕ → Kind → Pixel → List ℕ → Pixel
+foregroundBy D k p operands = foregroundIn D (leaves k) p operands
 
 -- a completed order is counted, and says whether an insert is pending; a refused one leaves both
 unfoldable pub insertAfter : Ending → Bool → Bool → Bool
-insertAfter completes i before = i
-insertAfter (refuses r) i before = before
+insertAfter complete i before = i
+insertAfter (refused r) i before = before
 
 unfoldable pub ordersAfter : Ending → ℕ → ℕ
-ordersAfter completes n = n + 1
-ordersAfter (refuses r) n = n
+ordersAfter complete n = n + 1
+ordersAfter (refused r) n = n
 
 -- ---- what an order paints with, by the bytes from its operands on
 
@@ -198,7 +205,7 @@ planBy h k n operands m c =
 
 unfoldable pub planFrom : Frame → ℕ → Progress → Head → Plan
 planFrom f h m (head k n rest) = planBy h k n rest m (countsOf (f .bytes) k n (length rest) (f .total - m .pixels))
-planFrom f h m (noHead r rest) = planBy h NoOrder 0 rest m (counts 0 0 (refuses r))
+planFrom f h m (Head.refused r rest) = planBy h NoOrder 0 rest m (counts 0 0 (refused r))
 
 -- the first row's end, as at an order's start
 unfoldable pub pastFirstRow : Frame → Progress → Progress
@@ -227,8 +234,8 @@ planState f s a =
     (a .after .insert) (a .after .firstRow) (a .after .orders)
 
 unfoldable pub endWith : Ending → State → Step
-endWith completes s = done s
-endWith (refuses r) s = refused r s
+endWith complete s = done s
+endWith (refused r) s = Step.refused r s
 
 unfoldable pub planStep : Frame → State → Plan → Step
 planStep f s a = endWith (a .ending) (planState f s a)

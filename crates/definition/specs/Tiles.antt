@@ -1,5 +1,5 @@
 -- Tiles with what they paint: the definition, run on each of them. Written as rows of stream, refusal (number and both values; 0 0 0:
--- none), orders completed, and painted bytes.
+-- none), format (0 where refused), pixels painted, orders completed, and painted bytes.
 use mathlib.Core.Path.{_≡_, refl}
 use mathlib.Core.List.{List, [], _∷_, map}
 use Prim.Native.Nat.{ℕ}
@@ -8,43 +8,42 @@ use Rattle.definition.specs.Orders
 use Rattle.picture.specs.Sizes
 use Rattle.picture.specs.Sizes.{Refusal, refusal}
 use Rattle.definition.specs.Decode
-use Rattle.definition.specs.Decode.{Result, result}
+use Rattle.definition.specs.Decode.{Result, result, Summary, summary, summaryOf}
 
 pub record Tile : Type 0 where
   pub bpp : ℕ
   pub width : ℕ
   pub height : ℕ
   pub stream : List ℕ
-  pub refused : Refusal
-  pub orders : ℕ
+  pub report : Summary
   pub painted : List ℕ
 
 -- bpp 8, width 4, height 2
-abbrev tile : List ℕ → Refusal → ℕ → List ℕ → Tile
-tile stream r orders painted =
-    record { bpp = 8; width = 4; height = 2; stream = stream; refused = r; orders = orders; painted = painted }
+abbrev tile : List ℕ → Refusal → ℕ → ℕ → ℕ → List ℕ → Tile
+tile stream r format pixels orders painted =
+    record { bpp = 8; width = 4; height = 2; stream = stream; report = summary r format pixels orders; painted = painted }
 
 abbrev ok : Refusal
 ok = refusal 0 0 0
 
 pub tiles : List Tile
 tiles =
-    tile [] ok 0 []
-    ∷ tile (0x02 ∷ 0x02 ∷ []) ok 2 (0x00 ∷ 0x00 ∷ 0xFF ∷ 0x00 ∷ [])
-    ∷ tile (0x04 ∷ 0x01 ∷ []) ok 2 (0x00 ∷ 0x00 ∷ 0x00 ∷ 0x00 ∷ 0x00 ∷ [])
-    ∷ tile (0x26 ∷ []) ok 1 (0xFF ∷ 0xFF ∷ 0xFF ∷ 0xFF ∷ 0xFF ∷ 0xFF ∷ [])
-    ∷ tile (0x24 ∷ 0x22 ∷ []) ok 2 (0xFF ∷ 0xFF ∷ 0xFF ∷ 0xFF ∷ 0x00 ∷ 0x00 ∷ [])
-    ∷ tile (0x24 ∷ 0x01 ∷ 0x01 ∷ []) ok 3 (0xFF ∷ 0xFF ∷ 0xFF ∷ 0xFF ∷ 0xFF ∷ 0x00 ∷ [])
-    ∷ tile (0xE2 ∷ 0x0A ∷ 0x0B ∷ []) ok 1 (0x0A ∷ 0x0B ∷ 0x0A ∷ 0x0B ∷ [])
-    ∷ tile (0x41 ∷ 0x05 ∷ []) ok 1 (0xFF ∷ 0x00 ∷ 0xFF ∷ 0x00 ∷ 0x00 ∷ 0x00 ∷ 0x00 ∷ 0x00 ∷ [])
-    ∷ tile (0xFA ∷ []) ok 1 (0xFF ∷ 0x00 ∷ 0xFF ∷ 0x00 ∷ 0x00 ∷ 0x00 ∷ 0x00 ∷ 0x00 ∷ [])
-    ∷ tile (0x09 ∷ []) (refusal 7 8 9) 0 []
-    ∷ tile (0x24 ∷ 0xA0 ∷ []) (refusal 5 0 0) 1 (0xFF ∷ 0xFF ∷ 0xFF ∷ 0xFF ∷ [])
-    ∷ tile (0x40 ∷ 0x0B ∷ 0x81 ∷ []) (refusal 6 1 0) 0 (0xFF ∷ 0x00 ∷ 0x00 ∷ 0x00 ∷ 0x00 ∷ 0x00 ∷ 0x00 ∷ 0xFF ∷ [])
-    ∷ tile (0x40 ∷ 0x0B ∷ 0x81 ∷ 0x00 ∷ []) (refusal 7 0 4) 0 (0xFF ∷ 0x00 ∷ 0x00 ∷ 0x00 ∷ 0x00 ∷ 0x00 ∷ 0x00 ∷ 0xFF ∷ [])
-    ∷ tile (0xF0 ∷ 0x00 ∷ 0x00 ∷ []) (refusal 8 0 0) 0 []
-    ∷ tile (0xF0 ∷ 0x00 ∷ []) (refusal 6 2 1) 0 []
-    ∷ record { bpp = 24; width = 1; height = 2; stream = 0xFD ∷ 0xFE ∷ []; refused = ok; orders = 2; painted = 0xFF ∷ 0xFF ∷ 0xFF ∷ 0x00 ∷ 0x00 ∷ 0x00 ∷ [] }
+    tile [] ok 8 0 0 []
+    ∷ tile (0x02 ∷ 0x02 ∷ []) ok 8 4 2 (0x00 ∷ 0x00 ∷ 0xFF ∷ 0x00 ∷ [])
+    ∷ tile (0x04 ∷ 0x01 ∷ []) ok 8 5 2 (0x00 ∷ 0x00 ∷ 0x00 ∷ 0x00 ∷ 0x00 ∷ [])
+    ∷ tile (0x26 ∷ []) ok 8 6 1 (0xFF ∷ 0xFF ∷ 0xFF ∷ 0xFF ∷ 0xFF ∷ 0xFF ∷ [])
+    ∷ tile (0x24 ∷ 0x22 ∷ []) ok 8 6 2 (0xFF ∷ 0xFF ∷ 0xFF ∷ 0xFF ∷ 0x00 ∷ 0x00 ∷ [])
+    ∷ tile (0x24 ∷ 0x01 ∷ 0x01 ∷ []) ok 8 6 3 (0xFF ∷ 0xFF ∷ 0xFF ∷ 0xFF ∷ 0xFF ∷ 0x00 ∷ [])
+    ∷ tile (0xE2 ∷ 0x0A ∷ 0x0B ∷ []) ok 8 4 1 (0x0A ∷ 0x0B ∷ 0x0A ∷ 0x0B ∷ [])
+    ∷ tile (0x41 ∷ 0x05 ∷ []) ok 8 8 1 (0xFF ∷ 0x00 ∷ 0xFF ∷ 0x00 ∷ 0x00 ∷ 0x00 ∷ 0x00 ∷ 0x00 ∷ [])
+    ∷ tile (0xFA ∷ []) ok 8 8 1 (0xFF ∷ 0x00 ∷ 0xFF ∷ 0x00 ∷ 0x00 ∷ 0x00 ∷ 0x00 ∷ 0x00 ∷ [])
+    ∷ tile (0x09 ∷ []) (refusal 7 8 9) 0 0 0 []
+    ∷ tile (0x24 ∷ 0xA0 ∷ []) (refusal 5 0 0) 0 4 1 (0xFF ∷ 0xFF ∷ 0xFF ∷ 0xFF ∷ [])
+    ∷ tile (0x40 ∷ 0x0B ∷ 0x81 ∷ []) (refusal 6 1 0) 0 8 0 (0xFF ∷ 0x00 ∷ 0x00 ∷ 0x00 ∷ 0x00 ∷ 0x00 ∷ 0x00 ∷ 0xFF ∷ [])
+    ∷ tile (0x40 ∷ 0x0B ∷ 0x81 ∷ 0x00 ∷ []) (refusal 7 0 4) 0 8 0 (0xFF ∷ 0x00 ∷ 0x00 ∷ 0x00 ∷ 0x00 ∷ 0x00 ∷ 0x00 ∷ 0xFF ∷ [])
+    ∷ tile (0xF0 ∷ 0x00 ∷ 0x00 ∷ []) (refusal 8 0 0) 0 0 0 []
+    ∷ tile (0xF0 ∷ 0x00 ∷ []) (refusal 6 2 1) 0 0 0 []
+    ∷ record { bpp = 24; width = 1; height = 2; stream = 0xFD ∷ 0xFE ∷ []; report = summary ok 24 2 2; painted = 0xFF ∷ 0xFF ∷ 0xFF ∷ 0x00 ∷ 0x00 ∷ 0x00 ∷ [] }
     ∷ []
 
 -- what the definition makes of a tile's stream
@@ -55,8 +54,7 @@ painting t r =
       width = t .width;
       height = t .height;
       stream = t .stream;
-      refused = r .refusal;
-      orders = r .orders;
+      report = summaryOf r;
       painted = Pixels.bytesOf (r .bytes) (r .painted);
     }
 

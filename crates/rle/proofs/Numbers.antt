@@ -16,7 +16,7 @@ use Rattle.picture.specs.Sizes.{refusal}
 use Rattle.picture.proofs.Tests.{by-test}
 use Rattle.definition.specs.Orders.{White, Black, NoOrder, Row, rows, row, noRow, rowOf, runLength, lengthOf}
 use Rattle.definition.specs.Codes.{kindRow, kindOf, kindNumber, lengthNumber}
-use Rattle.definition.specs.Plan.{counts, refuses, runCounts, countsOf, leavesInsert}
+use Rattle.definition.specs.Plan.{counts, refuses, runCounts, countsOf, leavesInsert, leaves, insertIn}
 use Rattle.rle.specs.Contracts.{Reads, lengthIs, imageKind, specialKind, pixelKind}
 use Rattle.definition.proofs.Headers.{fixed-length, by-header}
 
@@ -101,6 +101,6 @@ none a (suc n) (suc i) = none a n i
 
 -- only number 0 leaves an insert pending
 pub insert-number : (c : ℕ) → leavesInsert (kindOf c) ≡ eqb c 0
-unfolding leavesInsert kindOf kindRow rows row noRow
+unfolding insertIn kindOf kindRow rows row noRow leaves
 insert-number zero = refl
 insert-number (suc c) = sym (List·getD-map (λ (r : Row). leavesInsert (r .kind)) (drop 1 rows) c noRow) ∙ none false 11 c ∙ sym (ne-eqb (suc c) 0 (λ e. omega arith))

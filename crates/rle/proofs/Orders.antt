@@ -20,7 +20,7 @@ use Rattle.picture.specs.Sizes.{refusal, Frame}
 use Rattle.picture.proofs.Tests.{by-test}
 use Rattle.definition.specs.Orders.{Kind, BgRun, FgRun, FgBgImage, ColorRun, ColorImage, SetFgRun, SetFgBgImage, DitheredRun, SpecialFgBg1, SpecialFgBg2, White, Black, NoOrder}
 use Rattle.definition.specs.Decode.{solid, fgInk, bgInk, insertInk, maskInk, State, state, room, orderOf}
-use Rattle.definition.specs.Plan.{refuses, Counts, counts, behind, withOperands, runCounts, countsOf, leavesInsert, newForeground, foregroundBy, insertAfter, ordersAfter, imageInk, kindInk, endWith}
+use Rattle.definition.specs.Plan.{refuses, Counts, counts, behind, withOperands, runCounts, countsOf, leavesInsert, newForeground, foregroundBy, insertAfter, ordersAfter, imageInk, kindInk, endWith, leaves, insertIn, foregroundIn}
 use Rattle.rle.specs.Contracts.{countsIn, HasPlace, Paintable, Painted, Framed, Sound, Did, frameOf, stateOf, endingIn, outcomeOf, inkOf, reach, rowAbove, fgMode, bgMode, fgOf, bgOf, withFg, Fits, finishedOf}
 use Rattle.rle.proofs.Pixels.{length-pixelsOf}
 use Rattle.rle.proofs.Painting.{of-depth, painted-as}
@@ -71,7 +71,7 @@ new-of-depth {f = f} {p} frame of xs =
 
 pub kind-of-depth : {given : ℕ} {f : Frame} {p : Pixel} → Framed given f → OfDepth (f .bytes) p → (xs : List ℕ) (k : Kind)
     → OfDepth (f .bytes) (foregroundBy (f .bytes) k p xs)
-unfolding foregroundBy
+unfolding foregroundIn leaves
 kind-of-depth frame of xs BgRun = of
 kind-of-depth frame of xs FgRun = of
 kind-of-depth frame of xs FgBgImage = of
@@ -217,7 +217,7 @@ special-counts D n a R true = refl
 special-counts D n a R false = refl
 
 pub special-leaves : (D : ℕ) (s : CodeState) (xs : List ℕ) (t : Bool) → Leaves D (pick t SpecialFgBg1 SpecialFgBg2) s xs s false
-unfolding foregroundBy leavesInsert
+unfolding foregroundIn insertIn leaves
 special-leaves D s xs true = record { state = refl; insert = refl }
 special-leaves D s xs false = record { state = refl; insert = refl }
 
@@ -226,7 +226,7 @@ special-few D R p e = subst (λ (c : Counts). c .pixels ≤ 8) (sym e) (run-most
 
 pub special-ink : (f : Frame) (s : State) (t : Bool) (j : ℕ) → j < 8
     → imageInk (fgInk (s .firstRow) (s .foreground)) (bgInk (s .firstRow) (f .black)) (pick t 0x03 0x05 ∷ []) j ≡ inkBy f (pick t SpecialFgBg1 SpecialFgBg2) s j
-unfolding imageInk kindInk foregroundBy
+unfolding imageInk kindInk foregroundIn leaves
 special-ink f s t j few =
     let q : j / 8 ≡ 0 = omega arith in
     let r : j % 8 ≡ j = omega arith in
@@ -238,7 +238,7 @@ special-ink f s t j few =
 
 -- white, black, or no order
 pub pixel-leaves : (D : ℕ) (s : CodeState) (xs : List ℕ) (t u : Bool) → Leaves D (pick t NoOrder (pick u White Black)) s xs s false
-unfolding foregroundBy leavesInsert
+unfolding foregroundIn insertIn leaves
 pixel-leaves D s xs true u = record { state = refl; insert = refl }
 pixel-leaves D s xs false true = record { state = refl; insert = refl }
 pixel-leaves D s xs false false = record { state = refl; insert = refl }
@@ -261,7 +261,7 @@ module _ (f : Frame) (R : ℕ) (t : Bool) (p : CodePlan) (plans : countsIn p ≡
 
 -- an fg/bg image, with a foreground of its own or without
 pub image-leaves : (t : Bool) → false ≡ leavesInsert (pick t SetFgBgImage FgBgImage)
-unfolding leavesInsert
+unfolding insertIn leaves
 image-leaves true = refl
 image-leaves false = refl
 
@@ -270,7 +270,7 @@ image-ink : (f : Frame) (s : State) (pos : ℕ) (src : List ℕ) → s .left ≡
     → imageInk (fgInk (s .firstRow) (foregroundBy (f .bytes) (pick t SetFgBgImage FgBgImage) (s .foreground) (s .left))) (bgInk (s .firstRow) (f .black))
     (drop (pos + pick t (f .bytes) 0) src) j
     ≡ inkBy f (pick t SetFgBgImage FgBgImage) s j
-unfolding kindInk foregroundBy
+unfolding kindInk foregroundIn leaves
 image-ink f s pos src e true j = rw (e, drop-drop)
 image-ink f s pos src e false j = rw (e, add-zero)
 

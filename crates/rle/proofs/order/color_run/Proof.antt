@@ -2,7 +2,7 @@
 use mathlib.Core.Path.{refl}
 use native.Mathlib.Omega.{arith}
 use Rattle.definition.specs.Orders.{ColorRun}
-use Rattle.definition.specs.Plan.{countsOf, kindInk, leavesInsert, foregroundBy}
+use Rattle.definition.specs.Plan.{countsOf, kindInk, leaves, insertIn, foregroundIn}
 use Rattle.rle.proofs.Orders.{within, fits, operands-read, did-finished, has-place}
 use borrow.Author.Needs.{needs}
 use Rattle.rle.proofs.order.color_run.Statement.{statement}
@@ -24,7 +24,7 @@ finished-requires c κs =
     fits _ _ (s .pre .0) (s .pre .1 .0) ColorRun _ _ (s .pre .1 .1 .1 .0) (t .plan-pixel-run .result) (t .plan-pixel-run .ensures) (omega arith)
 
 returns : tie.Need-returns
-unfolding countsOf foregroundBy leavesInsert kindInk
+unfolding countsOf foregroundIn insertIn kindInk leaves
 returns c =
     let t = c .before .before .before .before .before in
     let s = t .before .before .before .before .before .before in

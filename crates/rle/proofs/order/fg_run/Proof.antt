@@ -2,7 +2,7 @@
 use mathlib.Core.Path.{refl}
 use native.Mathlib.Omega.{arith}
 use Rattle.definition.specs.Orders.{FgRun}
-use Rattle.definition.specs.Plan.{countsOf, kindInk, leavesInsert, foregroundBy}
+use Rattle.definition.specs.Plan.{countsOf, kindInk, leaves, insertIn, foregroundIn}
 use Rattle.rle.proofs.Painting.{painted-as}
 use Rattle.rle.proofs.Orders.{within, fits, did-finished, paintable, fg-row, fg-is}
 use borrow.Author.Needs.{needs}
@@ -25,7 +25,7 @@ finished-requires c κs =
     fits _ _ (s .pre .0) (s .pre .1 .0) FgRun _ 0 (s .pre .1 .1 .0) (t .plan-run .result) (t .plan-run .ensures) (omega arith)
 
 returns : tie.Need-returns
-unfolding countsOf foregroundBy leavesInsert kindInk
+unfolding countsOf foregroundIn insertIn kindInk leaves
 returns c = λ src place.
     let t = c .before .before .before .before .before .before in
     let s = t .before .before .before .before in

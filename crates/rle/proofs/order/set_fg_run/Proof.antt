@@ -2,7 +2,7 @@
 use mathlib.Core.Path.{refl}
 use native.Mathlib.Omega.{arith}
 use Rattle.definition.specs.Orders.{SetFgRun}
-use Rattle.definition.specs.Plan.{countsOf, kindInk, leavesInsert, foregroundBy}
+use Rattle.definition.specs.Plan.{countsOf, kindInk, leaves, insertIn, foregroundIn}
 use Rattle.rle.proofs.Painting.{painted-as}
 use Rattle.rle.proofs.Orders.{within, fits, fits-with, did-finished, paintable, fg-row, fg-is, new-of-depth}
 use borrow.Author.Needs.{needs}
@@ -26,7 +26,7 @@ finished-requires c κs =
     fits-with (c .before .before .before .before .before .new-foreground .ensures) (fits _ (s .args .s) (s .pre .0) (s .pre .1 .0) SetFgRun _ _ (s .pre .1 .1 .1 .0) (t .plan-pixel-run .result) (t .plan-pixel-run .ensures) (omega arith))
 
 returns : tie.Need-returns
-unfolding countsOf foregroundBy leavesInsert kindInk
+unfolding countsOf foregroundIn insertIn kindInk leaves
 returns c =
     let t = c .before .before .before .before .before .before .before in
     let s = t .before .before .before .before .before .before in
