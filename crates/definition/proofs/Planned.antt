@@ -14,8 +14,8 @@ use Rattle.picture.specs.Sizes.{Refusal, refusal, Frame}
 use Rattle.picture.proofs.Tests.{by-test}
 use Rattle.definition.specs.Orders.{Kind, BgRun, FgRun, FgBgImage, ColorRun, ColorImage, SetFgRun, SetFgBgImage, DitheredRun, SpecialFgBg1, SpecialFgBg2, White, Black, NoOrder, Head, head, refused, headOf}
 use Rattle.definition.specs.Decode.{Ink, fgInk, bgInk, paint, bg, State, state, Step, done, withPainted, withLeft, withForeground, completed, room, tooLarge, tooShort, needBytes, paintOrder, setForeground, bgRun, fgRun, setFgRun, colorRun, colorImage, ditheredRun, specialFgBg, fgBgImage, setFgBgImage, orderOf, orderFrom, endFirstRow, step}
-use Rattle.definition.specs.Plan.{Ending, complete, refused, Counts, counts, behind, withOperands, runCounts, masksFor, noMask, noRoom, imageCounts, countsOf, leavesInsert, newForeground, foregroundBy, insertAfter, ordersAfter, imageInk, kindInk, progressOf, planBy, planFrom, pastFirstRow, planOf, planForeground, planInk, endWith, planState, planStep, leaves, insertIn, foregroundIn}
-use Rattle.definition.proofs.Painting.{paint-cong}
+use Rattle.definition.specs.Plan.{Ending, complete, refused, Counts, counts, behind, withOperands, runCounts, masksFor, noMask, noRoom, imageCounts, countsOf, leavesInsert, newForeground, foregroundBy, insertAfter, ordersAfter, imageInk, kindInk, Progress, progressOf, planBy, planFrom, pastFirstRow, planOf, planForeground, planInk, endWith, planState, planStep, leaves, insertIn, foregroundIn}
+use Rattle.definition.proofs.Painting.{length-paint, paint-cong}
 use Rattle.definition.proofs.Masks.{acted, masks-acted}
 
 -- ---- runs, images, and the bytes before them
@@ -130,6 +130,16 @@ head-planned f h s (refused r rest) = refl
 pub step-planned : (f : Frame) (s : State) → step f s ≡ planStep f s (planOf f (progressOf s))
 unfolding step planOf progressOf pastFirstRow
 step-planned f s = head-planned f (getD (s .left) 0 0) s (headOf (s .left))
+
+-- the progress that it leaves is the plan's
+after-pixels : (f : Frame) (h : ℕ) (m : Progress) (x : Head) → m .pixels + planFrom f h m x .pixels ≡ planFrom f h m x .after .pixels
+unfolding planFrom planBy
+after-pixels f h m (head k n rest) = refl
+after-pixels f h m (Head.refused r rest) = refl
+
+pub progress-planned : (f : Frame) (s : State) → planOf f (progressOf s) .after ≡ progressOf (planState f s (planOf f (progressOf s)))
+unfolding progressOf planState planOf pastFirstRow
+progress-planned f s = rw (length-paint, after-pixels f (getD (s .left) 0 0) (pastFirstRow f (progressOf s)) (headOf (s .left)))
 
 -- ---- an fg/bg image with a foreground of its own or without
 

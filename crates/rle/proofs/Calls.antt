@@ -9,17 +9,20 @@ use lib.Seq.{length-take-le}
 use borrow.Author.Tests.{lt-ltb, le-ltb}
 use Rattle.picture.specs.declared.depth.Depth.{Depth as CodeDepth}
 use Rattle.rle.specs.declared.state.Stepped.{Stepped}
-use Rattle.rle.specs.declared.plan.Answer.{Answer}
-use Rattle.rle.specs.declared.plan.Answer.the-variants.{Done, Refused}
+use Rattle.rle.specs.declared.plan.Ending.{Ending as CodeEnding}
+use Rattle.rle.specs.declared.plan.Ending.the-variants.{Complete, Refused}
 use Rattle.rle.specs.declared.report.Report.{Report}
 use Rattle.picture.specs.declared.outcome.RleError.{RleError}
 use Rattle.picture.specs.declared.outcome.RleError.the-variants.{BufferTooShort}
 use Rattle.picture.specs.Pixels.{bytesOf}
 use Rattle.picture.specs.Sizes.{Frame, Depth, depthOf, Checked, rejected, accept, checked, withSpace, bytes, refused, sizeOf}
-use Rattle.definition.specs.Decode.{State, decode, resultOf, ofRun, ofChecked, resultIn}
+use Rattle.definition.specs.Decode.{State, thenRun, decode, resultOf, ofRun, ofChecked, resultIn, Summary}
+use Rattle.definition.specs.Plan.{endWith}
 use Rattle.picture.specs.Outcomes.{refusalOf, depthIn}
-use Rattle.rle.specs.Report.{Agrees, Decompresses}
-use Rattle.rle.specs.Contracts.{frameOf, stateOf, Framed, Ran, runOf, refusalAfter, formatAfter, Reports, notDecoded}
+use Rattle.rle.specs.Report.{summaryIn, Agrees, Decompresses}
+use Rattle.rle.specs.States.{frameOf, stateOf, Framed}
+use Rattle.rle.specs.Orders.{Decodes, runIn}
+use Rattle.rle.specs.Reporting.{refusalAfter, formatAfter, summaryAfter, notDecoded}
 use Rattle.rle.proofs.Pixels.{length-pixelsOf, bytes-pixels}
 use Rattle.picture.proofs.Depths.{Good, depth-good}
 use Rattle.picture.proofs.Sizes.{few, sized, size-rejected}
@@ -33,10 +36,7 @@ unfolding ofChecked bytesOf
 rejected-is src before total e p =
     rw p
     (record {
-      refusal = refl;
-      format = refl;
-      pixels = refl;
-      orders = refl;
+      report = refl;
       target = refl;
       painted = refl;
       within = zero-le;
@@ -63,46 +63,50 @@ module _ (src before : List ℕ) (bpp w h : ℕ) {r : Report} {e : RleError} (is
 
 -- ---- the stream
 
--- the result by the answer a that the code ends with
-pub result-is : (f : Frame) (k : ℕ) (a : Answer) (s : State) → resultOf (refusalAfter a) (formatAfter a k) (f .bytes) s ≡ ofRun f k (runOf a s)
-unfolding ofRun
-result-is f k Done s = refl
+-- the result by the ending of the last order
+pub result-is : (f : Frame) (k : ℕ) (a : CodeEnding) (s : State) → resultOf (refusalAfter a) (formatAfter a k) (f .bytes) s ≡ ofRun f k (runIn a s)
+unfolding ofRun thenRun endWith
+result-is f k Complete s = refl
 result-is f k (Refused e) s = refl
 
-last-is : (a : Answer) (s : State) → last (runOf a s) ≡ s
-last-is Done s = refl
+last-is : (a : CodeEnding) (s : State) → last (runIn a s) ≡ s
+unfolding thenRun endWith
+last-is Complete s = refl
 last-is (Refused e) s = refl
 
 module _ (f : Frame) (k : ℕ) (src before after : List ℕ) (s : Stepped) (frame : Framed (length before) f) (same : length after ≡ length before)
-    (octets : Bytes src) (ran : Ran f src before after s) {r : Report} (reports : Reports (s .answer) (s .state .pixels) (s .state .orders) k r) where
+    (octets : Bytes src) (decodes : Decodes f src before after s) (r : Report) (reports : summaryIn r ≡ summaryAfter (s .ending) k (s .state .pixels) (s .state .orders)) where
   fits : s .state .pixels * f .bytes ≤ length after
-  fits = rw same (omega (arith, frame .fits, mul-le-mul-right {m = s .state .pixels} {n = f .total} (f .bytes) (ran .sound .within)))
+  fits = rw same (omega (arith, frame .fits, mul-le-mul-right {m = s .state .pixels} {n = f .total} (f .bytes) (decodes .invariant .within)))
 
   bounded-is : s .state .pixels ≤ 26214 * length src
   bounded-is =
-      let e : last (decode f src) ≡ stateOf f src after (s .state) = ap last (sym (ran .is)) ∙ last-is (s .answer) _ in
+      let e : last (decode f src) ≡ stateOf f src after (s .state) = ap last (sym (decodes .is)) ∙ last-is (s .ending) _ in
       let n : length (last (decode f src) .painted) ≡ s .state .pixels =
       ap (λ (x : State). length (x .painted)) e ∙ length-pixelsOf (f .bytes) (s .state .pixels) after in
       omega (arith, n, decode-bounds f src (frame .low) octets .1)
 
+  pixels : r .pixels ≡ s .state .pixels
+  pixels = ap (λ (x : Summary). x .pixels) reports
+
+  orders : r .orders ≡ s .state .orders
+  orders = ap (λ (x : Summary). x .orders) reports
+
   reports-run : Agrees src before after (f .total) r (ofRun f k (decode f src))
   unfolding resultOf
   reports-run =
-      rw (← ran .is, ← result-is)
+      rw (← decodes .is, ← result-is)
       (record {
-        refusal = reports .refusal;
-        format = reports .format;
-        pixels = reports .pixels ∙ sym (length-pixelsOf (f .bytes) (s .state .pixels) after);
-        orders = reports .orders;
+        report = rw length-pixelsOf reports;
         target =
-            rw (length-pixelsOf (f .bytes) (s .state .pixels) after, bytes-pixels (f .bytes) (s .state .pixels) after (frame .high) fits, ← ran .rest)
+            rw (length-pixelsOf (f .bytes) (s .state .pixels) after, bytes-pixels (f .bytes) (s .state .pixels) after (frame .high) fits, ← decodes .rest)
             (sym (take-append-drop (s .state .pixels * f .bytes) after));
         painted =
             rw (length-pixelsOf (f .bytes) (s .state .pixels) after, bytes-pixels (f .bytes) (s .state .pixels) after (frame .high) fits)
             (length-take-le (s .state .pixels * f .bytes) after fits);
-        within = rw (reports .pixels) (ran .sound .within);
-        counted = rw (reports .orders, reports .pixels) (ran .sound .counted);
-        bounded = rw (reports .pixels) bounded-is;
+        within = rw pixels (decodes .invariant .within);
+        counted = rw (pixels, orders) (decodes .invariant .counted);
+        bounded = rw pixels bounded-is;
       })
 
 module _ (bpp w h : ℕ) {n : ℕ} (is : bytes n ≡ sizeOf (checked bpp w h)) {d : CodeDepth} (row : depthIn d ≡ depthOf bpp) where
@@ -125,10 +129,10 @@ module _ (bpp w h : ℕ) {n : ℕ} (is : bytes n ≡ sizeOf (checked bpp w h)) {
         }
 
     pub reports-decoded : (src after : List ℕ) (s : Stepped) → length after ≡ length before → Bytes src
-        → Ran (frameOf (record { depth = d; width = w; total = w * h })) src before after s
-        → {r : Report} → Reports (s .answer) (s .state .pixels) (s .state .orders) (d .format) r → Decompresses src bpp w h before after r
+        → Decodes (frameOf (record { depth = d; width = w; total = w * h })) src before after s
+        → (r : Report) → summaryIn r ≡ summaryAfter (s .ending) (d .format) (s .state .pixels) (s .state .orders) → Decompresses src bpp w h before after r
     unfolding resultIn ofChecked withSpace accept
-    reports-decoded src after s same octets ran reports =
+    reports-decoded src after s same octets decodes r reports =
         let k = sized bpp w h n is in
         rw (k .checks, le-ltb (length before) (w * h * depthOf bpp .bytes) (rw (k .size) at space), ← row)
-        (reports-run _ (d .format) src before after s frame-good same octets ran reports)
+        (reports-run _ (d .format) src before after s frame-good same octets decodes r reports)

@@ -11,7 +11,7 @@ use Rattle.rle.specs.declared.state.State.{State as CodeState}
 use Rattle.picture.specs.Pixels.{pick}
 use Rattle.definition.specs.Orders.{headOf}
 use Rattle.definition.specs.Decode.{State, orderFrom, endFirstRow, step}
-use Rattle.rle.specs.Contracts.{Sound, frameOf, stateOf, rowAbove, firstRowEnded}
+use Rattle.rle.specs.States.{Invariant, frameOf, stateOf, rowAbove, firstRowEnded}
 use Rattle.rle.proofs.Pixels.{length-pixelsOf}
 use Rattle.definition.proofs.Headers.{both}
 
@@ -54,13 +54,13 @@ module _ (f : CodeFrame) (s : CodeState) where
   unfolding endFirstRow
   mark-is src dst = rw length-pixelsOf
 
-  pub sound-marked : Sound (frameOf f) s → Sound (frameOf f) (firstRowEnded f s)
-  sound-marked sound =
+  pub invariant-marked : Invariant (frameOf f) s → Invariant (frameOf f) (firstRowEnded f s)
+  invariant-marked invariant =
       record {
-        within = sound .within;
-        row = row-marked (s .«first_row») (ltb (s .pixels) (f .width)) (s .pixels) (f .width) refl (sound .row);
-        foreground = sound .foreground;
-        counted = sound .counted;
+        within = invariant .within;
+        row = row-marked (s .«first_row») (ltb (s .pixels) (f .width)) (s .pixels) (f .width) refl (invariant .row);
+        foreground = invariant .foreground;
+        counted = invariant .counted;
       }
 
 -- an order begins with it, so it may have come before

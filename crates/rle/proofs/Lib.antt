@@ -2,9 +2,9 @@ pub mod Pixels
 pub mod Painting
 pub mod Lengths
 pub mod Numbers
+pub mod Heads
 pub mod Orders
 pub mod FirstRow
-pub mod Running
 pub mod Stream
 pub mod Walks
 pub mod Calls

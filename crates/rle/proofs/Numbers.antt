@@ -9,15 +9,16 @@ use native.Mathlib.Omega.{arith}
 use lib.Dec.{ltb, eqb}
 use lib.ListN.{getD, drop, replicate, List·getD-map, List·getD-eq-default}
 use borrow.Author.Tests.{lt-ltb, le-ltb, ltb-true, ltb-false, ne-eqb}
-use Rattle.rle.specs.declared.code.RunLength.{RunLength as CodeLength}
-use Rattle.rle.specs.declared.code.RunLength.the-variants.{Of}
+use Rattle.rle.specs.declared.head.RunLength.{RunLength as CodeLength}
+use Rattle.rle.specs.declared.head.RunLength.the-variants.{Of}
 use Rattle.picture.specs.Pixels.{pick}
 use Rattle.picture.specs.Sizes.{refusal}
 use Rattle.picture.proofs.Tests.{by-test}
 use Rattle.definition.specs.Orders.{White, Black, NoOrder, Row, rows, row, noRow, rowOf, runLength, lengthOf}
 use Rattle.definition.specs.Codes.{kindRow, kindOf, kindNumber, lengthNumber}
-use Rattle.definition.specs.Plan.{counts, refuses, runCounts, countsOf, leavesInsert, leaves, insertIn}
-use Rattle.rle.specs.Contracts.{Reads, lengthIs, imageKind, specialKind, pixelKind}
+use Rattle.definition.specs.Plan.{counts, refused, runCounts, countsOf, leavesInsert, leaves, insertIn}
+use Rattle.rle.specs.Heads.{ReadsLength, lengthIn}
+use Rattle.rle.specs.Planning.{imageKind, specialKind, pixelKind}
 use Rattle.definition.proofs.Headers.{fixed-length, by-header}
 
 -- an image, with a foreground of its own or without
@@ -53,7 +54,7 @@ special-number (suc (suc (suc (suc (suc (suc (suc (suc (suc zero))))))))) h z o 
 special-number (suc (suc (suc (suc (suc (suc (suc (suc (suc (suc m)))))))))) h z o i a b c d = absurd (omega arith)
 
 -- the lengths of numbers from 8 on are read as they are fixed
-pub fixed-read : {src : List ℕ} {a c n next : ℕ} (h : ℕ) {l : CodeLength} → h < 256 → c ≡ kindNumber h → Reads src a l (lengthOf (rowOf h) h (drop a src)) → l ≡ Of n next
+pub fixed-read : {src : List ℕ} {a c n next : ℕ} (h : ℕ) {l : CodeLength} → h < 256 → c ≡ kindNumber h → ReadsLength src a l (lengthOf (rowOf h) h (drop a src)) → l ≡ Of n next
     → (9 < c → n ≡ 1) × (7 < c → c ≤ 9 → n ≡ 8)
 fixed-read {src} {a} {c} {n} {next} h byte known reads is =
     (λ k. fixed (omega arith) ∙ rw (lt-ltb 9 c k), λ k m. fixed k ∙ rw (le-ltb 9 c m))
@@ -63,18 +64,18 @@ fixed-read {src} {a} {c} {n} {next} h byte known reads is =
         let w : lengthNumber h ≡ pick (ltb 9 c) 1 8 = rw known (fixed-length h byte (rw (← known) k)) in
         let some : 0 < lengthNumber h = rw w (by-test (λ (m : ℕ). 0 < m) (ltb 9 c) (λ _. omega arith) (λ _. omega arith)) in
         let r : runLength n (drop next src) ≡ runLength (lengthNumber h) (drop a src) =
-        ap (λ (x : CodeLength). lengthIs src x) (sym is) ∙ reads .is ∙ by-header h byte (drop a src) .0 some in
+        ap (λ (x : CodeLength). lengthIn src x) (sym is) ∙ reads .is ∙ by-header h byte (drop a src) .0 some in
         cc
 
 -- what its function plans
 pub pixel-plans : (D a R : ℕ) (t u : Bool)
-    → pick t (counts 0 0 (refuses (refusal 5 0 0))) (runCounts D 1 R) ≡ countsOf D (pick t NoOrder (pick u White Black)) 1 a R
+    → pick t (counts 0 0 (refused (refusal 5 0 0))) (runCounts D 1 R) ≡ countsOf D (pick t NoOrder (pick u White Black)) 1 a R
 unfolding countsOf
 pixel-plans D a R true u = refl
 pixel-plans D a R false true = refl
 pixel-plans D a R false false = refl
 
-pub pixel-counts : (D n a R c : ℕ) → 9 < c → n ≡ 1 → pick (ltb 11 c) (counts 0 0 (refuses (refusal 5 0 0))) (runCounts D 1 R) ≡ countsOf D (kindOf c) n a R
+pub pixel-counts : (D n a R c : ℕ) → 9 < c → n ≡ 1 → pick (ltb 11 c) (counts 0 0 (refused (refusal 5 0 0))) (runCounts D 1 R) ≡ countsOf D (kindOf c) n a R
 pixel-counts D n a R c h e = rw (e, pixel-number c h) (pixel-plans D a R (ltb 11 c) (eqb c 10))
 
 module _ (D n a R : ℕ) where

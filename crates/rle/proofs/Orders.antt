@@ -1,9 +1,9 @@
--- Laws of orders: an order that is planned, and whose pixels are painted as planned, did what the definition does. Assumes nothing.
+-- Laws of orders: an order that is planned, and whose pixels are painted as planned, is the definition's. Assumes nothing.
 use mathlib.Core.Path.{_≡_, refl, ap, sym, _∙_, subst}
 use mathlib.Core.List.{List, [], _∷_}
 use mathlib.Core.Bool.{Bool, true, false}
-use Prim.Native.Nat.{ℕ, _+_, _*_, _-_, _/_, _%_, _≤_, _<_}
-use native.Mathlib.Nat.{add-zero, mul-le-mul-right}
+use Prim.Native.Nat.{ℕ, _+_, _*_, _-_, _/_, _%_, _≤_, _<_, zero-le}
+use native.Mathlib.Nat.{add-zero, mul-le-mul-right, le-refl}
 use native.Mathlib.Omega.{arith}
 use lib.Dec.{leb}
 use lib.ListN.{length, drop, length-drop}
@@ -11,17 +11,20 @@ use lib.Seq.{drop-drop}
 use Rattle.rle.specs.declared.state.State.{State as CodeState}
 use Rattle.rle.specs.declared.state.Frame.{Frame as CodeFrame}
 use Rattle.rle.specs.declared.state.Stepped.{Stepped}
+use Rattle.rle.specs.declared.paint.Mode.{Mode}
+use Rattle.rle.specs.declared.paint.Mode.the-variants.{Solid, Above, AboveXor}
 use Rattle.rle.specs.declared.paint.Ink.{Ink as CodeInk}
 use Rattle.rle.specs.declared.plan.Plan.{Plan as CodePlan}
-use Rattle.rle.specs.declared.plan.Answer.{Answer}
-use Rattle.rle.specs.declared.plan.Answer.the-variants.{Done, Refused}
 use Rattle.picture.specs.Pixels.{Pixel, pick, OfDepth}
 use Rattle.picture.specs.Sizes.{refusal, Frame}
 use Rattle.picture.proofs.Tests.{by-test}
-use Rattle.definition.specs.Orders.{Kind, BgRun, FgRun, FgBgImage, ColorRun, ColorImage, SetFgRun, SetFgBgImage, DitheredRun, SpecialFgBg1, SpecialFgBg2, White, Black, NoOrder}
+use Rattle.definition.specs.Orders.{Kind, FgBgImage, SetFgBgImage, SpecialFgBg1, SpecialFgBg2, White, Black, NoOrder}
 use Rattle.definition.specs.Decode.{solid, fgInk, bgInk, insertInk, maskInk, State, state, room, orderOf}
-use Rattle.definition.specs.Plan.{refuses, Counts, counts, behind, withOperands, runCounts, countsOf, leavesInsert, newForeground, foregroundBy, insertAfter, ordersAfter, imageInk, kindInk, endWith, leaves, insertIn, foregroundIn}
-use Rattle.rle.specs.Contracts.{countsIn, HasPlace, Paintable, Painted, Framed, Sound, Did, frameOf, stateOf, endingIn, outcomeOf, inkOf, reach, rowAbove, fgMode, bgMode, fgOf, bgOf, withFg, Fits, finishedOf}
+use Rattle.definition.specs.Plan.{refused, Counts, counts, behind, withOperands, runCounts, countsOf, leavesInsert, newForeground, foregroundBy, insertAfter, ordersAfter, imageInk, kindInk, endWith, Left, anInsert, aForeground, nothing, leaves, insertIn, foregroundIn}
+use Rattle.rle.specs.Planning.{countsIn, endingIn}
+use Rattle.rle.specs.Painting.{HasPlace, Paintable, Painted, ofMode, inkOf, reach}
+use Rattle.rle.specs.States.{Framed, Invariant, frameOf, stateOf, rowAbove, rowMode, rowInk, fgOf, bgOf, withFg, Fits, finishedOf}
+use Rattle.rle.specs.Orders.{Executes, stepIn}
 use Rattle.rle.proofs.Pixels.{length-pixelsOf}
 use Rattle.rle.proofs.Painting.{of-depth, painted-as}
 use Rattle.definition.proofs.Masks.{acted, image-masks}
@@ -30,37 +33,35 @@ use Rattle.definition.proofs.Planned.{inkBy, kind-acted, Within, kind-within, o
 -- ---- painting
 
 -- n pixels have a place, and can be painted
-pub has-place : {f : Frame} {s : CodeState} (dst : List ℕ) (n : ℕ) → Framed (length dst) f → Sound f s → n ≤ f .total - s .pixels
+pub has-place : {f : Frame} {s : CodeState} (dst : List ℕ) (n : ℕ) → Framed (length dst) f → Invariant f s → n ≤ f .total - s .pixels
     → HasPlace (f .bytes) (s .pixels) n dst
-has-place {f} {s = s} dst n frame sound h =
+has-place {f} {s = s} dst n frame invariant h =
     record {
       low = frame .low;
       high = frame .high;
       fits =
-          omega (arith, frame .fits, sound .within, mul-le-mul-right {m = s .pixels + n} {n = f .total} (f .bytes) (omega (arith, sound .within)));
+          omega (arith, frame .fits, invariant .within, mul-le-mul-right {m = s .pixels + n} {n = f .total} (f .bytes) (omega (arith, invariant .within)));
     }
 
-pub paintable : {f : Frame} {s : CodeState} (dst : List ℕ) (n : ℕ) (ink : CodeInk) → Framed (length dst) f → Sound f s
+pub paintable : {f : Frame} {s : CodeState} (dst : List ℕ) (n : ℕ) (ink : CodeInk) → Framed (length dst) f → Invariant f s
     → n ≤ f .total - s .pixels → reach (ink .mode) (f .width) ≤ s .pixels → OfDepth (f .bytes) (ink .pixel)
     → Paintable (f .bytes) (f .width) (s .pixels) n dst ink
-paintable dst n ink frame sound h r e =
-    let p = has-place dst n frame sound h in
+paintable dst n ink frame invariant h r e =
+    let p = has-place dst n frame invariant h in
     record { low = p .low; high = p .high; wide = frame .wide; fits = p .fits; row = r; pixel = e }
 
 -- the row above is there where the state's two inks look at it
-pub fg-row : {f : Frame} {s : CodeState} → Sound f s → reach (fgMode (s .«first_row»)) (f .width) ≤ s .pixels
-fg-row {f} {s = s} sound = go (s .«first_row») (sound .row)
-  where
-    go : (t : Bool) → rowAbove t (f .width) ≤ s .pixels → reach (fgMode t) (f .width) ≤ s .pixels
-    go true h = h
-    go false h = h
+reach-most : (later : Mode) (w : ℕ) → reach later w ≤ w
+reach-most Solid w = zero-le
+reach-most Above w = le-refl w
+reach-most AboveXor w = le-refl w
 
-pub bg-row : {f : Frame} {s : CodeState} → Sound f s → reach (bgMode (s .«first_row»)) (f .width) ≤ s .pixels
-bg-row {f} {s = s} sound = go (s .«first_row») (sound .row)
+pub row-reach : {f : Frame} {s : CodeState} (later : Mode) → Invariant f s → reach (rowMode (s .«first_row») later) (f .width) ≤ s .pixels
+row-reach {f} {s} later invariant = go (s .«first_row») (invariant .row)
   where
-    go : (t : Bool) → rowAbove t (f .width) ≤ s .pixels → reach (bgMode t) (f .width) ≤ s .pixels
+    go : (t : Bool) → rowAbove t (f .width) ≤ s .pixels → reach (rowMode t later) (f .width) ≤ s .pixels
     go true h = h
-    go false h = h
+    go false h = omega (arith, reach-most later (f .width))
 
 -- the foreground that an order leaves has its unused bytes zero
 pub new-of-depth : {given : ℕ} {f : Frame} {p : Pixel} → Framed given f → OfDepth (f .bytes) p → (xs : List ℕ)
@@ -69,48 +70,28 @@ unfolding newForeground
 new-of-depth {f = f} {p} frame of xs =
     by-test (λ (x : Pixel). OfDepth (f .bytes) x) (leb (f .bytes) (length xs)) (λ e. of-depth (f .bytes) xs (frame .low) (frame .high)) (λ e. of)
 
-pub kind-of-depth : {given : ℕ} {f : Frame} {p : Pixel} → Framed given f → OfDepth (f .bytes) p → (xs : List ℕ) (k : Kind)
-    → OfDepth (f .bytes) (foregroundBy (f .bytes) k p xs)
-unfolding foregroundIn leaves
-kind-of-depth frame of xs BgRun = of
-kind-of-depth frame of xs FgRun = of
-kind-of-depth frame of xs FgBgImage = of
-kind-of-depth frame of xs ColorRun = of
-kind-of-depth frame of xs ColorImage = of
-kind-of-depth frame of xs SetFgRun = new-of-depth frame of xs
-kind-of-depth frame of xs SetFgBgImage = new-of-depth frame of xs
-kind-of-depth frame of xs DitheredRun = of
-kind-of-depth frame of xs SpecialFgBg1 = of
-kind-of-depth frame of xs SpecialFgBg2 = of
-kind-of-depth frame of xs White = of
-kind-of-depth frame of xs Black = of
-kind-of-depth frame of xs NoOrder = of
+pub kind-of-depth : {given : ℕ} {f : Frame} {p : Pixel} → Framed given f → OfDepth (f .bytes) p → (xs : List ℕ) (l : Left)
+    → OfDepth (f .bytes) (foregroundIn (f .bytes) l p xs)
+unfolding foregroundIn
+kind-of-depth frame of xs anInsert = of
+kind-of-depth frame of xs aForeground = new-of-depth frame of xs
+kind-of-depth frame of xs nothing = of
 
 -- ---- the code's inks are the definition's
 
-fg-ink : (s : CodeState) → inkOf (fgOf s) ≡ fgInk (s .«first_row») (s .foreground)
-unfolding fgInk
-fg-ink s = go (s .«first_row»)
-  where
-    go : (t : Bool) → inkOf (record { mode = fgMode t; pixel = s .foreground }) ≡ fgInk t (s .foreground)
-    go true = refl
-    go false = refl
-
-bg-ink : (f : CodeFrame) (s : CodeState) → inkOf (bgOf f s) ≡ bgInk (s .«first_row») (f .depth .black)
-unfolding bgInk
-bg-ink f s = go (s .«first_row»)
-  where
-    go : (t : Bool) → inkOf (record { mode = bgMode t; pixel = f .depth .black }) ≡ bgInk t (f .depth .black)
-    go true = refl
-    go false = refl
+ink-in-row : (first : Bool) (later : Mode) (p : Pixel) → inkOf (rowInk first later p) ≡ pick first (solid p) (ofMode later p)
+ink-in-row true later p = refl
+ink-in-row false later p = refl
 
 -- those of a state that differs from s in the foreground alone
 pub fg-is : {i : CodeInk} {t : CodeState} {p : Pixel} (s : CodeState) → t ≡ withFg s p → i ≡ fgOf t → inkOf i ≡ fgInk (s .«first_row») p
-fg-is {p = p} s e is = ap (λ (x : CodeInk). inkOf x) (is ∙ ap (λ (x : CodeState). fgOf x) e) ∙ fg-ink (withFg s p)
+unfolding fgInk
+fg-is {p = p} s e is = ap (λ (x : CodeInk). inkOf x) (is ∙ ap (λ (x : CodeState). fgOf x) e) ∙ ink-in-row (s .«first_row») AboveXor p
 
 pub bg-is : {j : CodeInk} {t : CodeState} {p : Pixel} (f : CodeFrame) (s : CodeState) → t ≡ withFg s p → j ≡ bgOf f t
     → inkOf j ≡ bgInk (s .«first_row») (f .depth .black)
-bg-is {p = p} f s e is = ap (λ (x : CodeInk). inkOf x) (is ∙ ap (λ (x : CodeState). bgOf f x) e) ∙ bg-ink f (withFg s p)
+unfolding bgInk
+bg-is {p = p} f s e is = ap (λ (x : CodeInk). inkOf x) (is ∙ ap (λ (x : CodeState). bgOf f x) e) ∙ ink-in-row (s .«first_row») Above (f .depth .black)
 
 module _ {D w k n : ℕ} {xs ys : List ℕ} {i j : CodeInk} (f : CodeFrame) (s : CodeState) (fg : i ≡ fgOf s) (bg : j ≡ bgOf f s) where
   pub insert-inks : (insert : Bool) → Painted D w (insertInk insert (inkOf i) (inkOf j)) k n xs ys
@@ -123,20 +104,15 @@ module _ {D w k n : ℕ} {xs ys : List ℕ} {i j : CodeInk} (f : CodeFrame) (s :
 
 -- ---- an order planned and painted
 
-pub outcome-ends : (a : Answer) (t : State) → outcomeOf a t ≡ endWith (endingIn a) t
-unfolding endWith
-outcome-ends Done t = refl
-outcome-ends (Refused e) t = refl
-
 -- an order of kind k and run length n with the plan p, in the state s: a bytes are left
-module _ {given : ℕ} (f : Frame) (s : CodeState) (frame : Framed given f) (sound : Sound f s) (k : Kind) (n a : ℕ) (one : 1 ≤ n) (p : CodePlan)
+module _ {given : ℕ} (f : Frame) (s : CodeState) (frame : Framed given f) (invariant : Invariant f s) (k : Kind) (n a : ℕ) (one : 1 ≤ n) (p : CodePlan)
     (plans : countsIn p ≡ countsOf (f .bytes) k n a (f .total - s .pixels)) where
   pub within : Within a (f .total - s .pixels) (countsIn p)
   within = rw plans (kind-within (f .bytes) k n a (f .total - s .pixels) one)
 
   pub fits : s .pos + a ≤ 18446744073709551615 → Fits s p
   fits h =
-      record { read = omega (arith, within .read); pixels = omega (arith, within .pixels, frame .few, sound .within); counted = sound .counted }
+      record { read = omega (arith, within .read); pixels = omega (arith, within .pixels, frame .few, invariant .within); counted = invariant .counted }
 
 -- the same with another foreground
 pub fits-with : {s t : CodeState} {x : Pixel} {p : CodePlan} → t ≡ withFg s x → Fits s p → Fits t p
@@ -156,7 +132,7 @@ pub record Leaves (D : ℕ) (k : Kind) (s : CodeState) (xs : List ℕ) (t : Code
   pub state : t ≡ withFg s (foregroundBy D k (s .foreground) xs)
   pub insert : i ≡ leavesInsert k
 
-module _ (f : Frame) (src before after : List ℕ) (s : CodeState) (frame : Framed (length before) f) (sound : Sound f s) (place : s .pos ≤ length src)
+module _ (f : Frame) (src before after : List ℕ) (s : CodeState) (frame : Framed (length before) f) (invariant : Invariant f s) (place : s .pos ≤ length src)
     (k : Kind) (n : ℕ) (one : 1 ≤ n) (p : CodePlan) (plans : countsIn p ≡ countsOf (f .bytes) k n (length src - s .pos) (f .total - s .pixels)) where
   abbrev S : State
   S = stateOf f src before s
@@ -172,43 +148,43 @@ module _ (f : Frame) (src before after : List ℕ) (s : CodeState) (frame : Fram
       (countsOf (f .bytes) k n (length-drop (s .pos) src i) (f .total - length-pixelsOf (f .bytes) (s .pixels) before i)) S)
       ∙ ap (λ (c : Counts). acted f (leavesInsert k) (inkBy f k S) foreground c S) (sym plans)
 
-  did-planned : Painted (f .bytes) (f .width) (inkBy f k S) (s .pixels) (p .pixels) before after
-      → Did f src before after s (finishedOf (withFg s foreground) p (leavesInsert k)) (orderOf f k n)
+  executes-planned : Painted (f .bytes) (f .width) (inkBy f k S) (s .pixels) (p .pixels) before after
+      → Executes f src before after s (finishedOf (withFg s foreground) p (leavesInsert k)) (orderOf f k n)
   unfolding acted
-  did-planned painted =
-      let w = within f s frame sound k n (length src - s .pos) one p plans in
-      let e = endingIn (p .answer) in
+  executes-planned painted =
+      let w = within f s frame invariant k n (length src - s .pos) one p plans in
+      let e = endingIn (p .ending) in
       let l = sym (drop-drop (p .read) (s .pos) src) in
       let ps = painted .pixels in
       let after : List ℕ → List Pixel → State =
       λ xs qs. state xs qs foreground (insertAfter e (leavesInsert k) (s .insert)) (s .«first_row») (ordersAfter e (s .orders)) in
       record {
-        is = (λ j. outcomeOf (p .answer) (after (l j) (ps j))) ∙ outcome-ends (p .answer) (after _ _) ∙ sym acts;
+        is = (λ j. stepIn (p .ending) (after (l j) (ps j))) ∙ sym acts;
         rest = painted .rest;
         grows = omega arith;
         reads = omega arith;
         place = omega (arith, w .read);
         mark = refl;
-        sound =
+        invariant =
             record {
-              within = omega (arith, sound .within, w .pixels);
-              row = omega (arith, sound .row);
-              foreground = kind-of-depth frame (sound .foreground) (drop (s .pos) src) k;
-              counted = orders-few e (sound .counted) (w .some);
+              within = omega (arith, invariant .within, w .pixels);
+              row = omega (arith, invariant .row);
+              foreground = kind-of-depth frame (invariant .foreground) (drop (s .pos) src) (leaves k);
+              counted = orders-few e (invariant .counted) (w .some);
             };
       }
 
-  pub did-finished : {t : CodeState} {i : Bool} {r : Stepped} → Leaves (f .bytes) k s (drop (s .pos) src) t i → r ≡ finishedOf t p i
-      → Painted (f .bytes) (f .width) (inkBy f k S) (s .pixels) (p .pixels) before after → Did f src before after s r (orderOf f k n)
-  did-finished {r = r} leaves is painted =
-      let e : r ≡ finishedOf (withFg s foreground) p (leavesInsert k) = is ∙ (λ j. finishedOf (leaves .state j) p (leaves .insert j)) in
-      rw e (did-planned painted)
+  pub executes-finished : {t : CodeState} {i : Bool} {r : Stepped} → Leaves (f .bytes) k s (drop (s .pos) src) t i → r ≡ finishedOf t p i
+      → Painted (f .bytes) (f .width) (inkBy f k S) (s .pixels) (p .pixels) before after → Executes f src before after s r (orderOf f k n)
+  executes-finished {r = r} left is painted =
+      let e : r ≡ finishedOf (withFg s foreground) p (leavesInsert k) = is ∙ (λ j. finishedOf (left .state j) p (left .insert j)) in
+      rw e (executes-planned painted)
 
 -- ---- the functions that serve several kinds, by their numbers
 
-pub did-kind : {f : Frame} {src before after : List ℕ} {s : CodeState} {r : Stepped} (n : ℕ) {k l : Kind} → k ≡ l
-    → Did f src before after s r (orderOf f k n) → Did f src before after s r (orderOf f l n)
-did-kind {f} {src} {before} {after} {s} {r} n e d = subst (λ (x : Kind). Did f src before after s r (orderOf f x n)) e d
+pub executes-kind : {f : Frame} {src before after : List ℕ} {s : CodeState} {r : Stepped} (n : ℕ) {k l : Kind} → k ≡ l
+    → Executes f src before after s r (orderOf f k n) → Executes f src before after s r (orderOf f l n)
+executes-kind {f} {src} {before} {after} {s} {r} n e d = subst (λ (x : Kind). Executes f src before after s r (orderOf f x n)) e d
 
 -- a special fg/bg image has one of two masks
 pub special-counts : (D n a R : ℕ) (t : Bool) → runCounts D n R ≡ countsOf D (pick t SpecialFgBg1 SpecialFgBg2) n a R
@@ -244,7 +220,7 @@ pixel-leaves D s xs false true = record { state = refl; insert = refl }
 pixel-leaves D s xs false false = record { state = refl; insert = refl }
 
 -- at most one pixel, white or black
-module _ (f : Frame) (R : ℕ) (t : Bool) (p : CodePlan) (plans : countsIn p ≡ pick t (counts 0 0 (refuses (refusal 5 0 0))) (runCounts (f .bytes) 1 R)) where
+module _ (f : Frame) (R : ℕ) (t : Bool) (p : CodePlan) (plans : countsIn p ≡ pick t (counts 0 0 (refused (refusal 5 0 0))) (runCounts (f .bytes) 1 R)) where
   pub pixel-few : p .pixels ≤ 1
   pixel-few =
       subst (λ (c : Counts). c .pixels ≤ 1) (sym plans) (by-test (λ (c : Counts). c .pixels ≤ 1) t (λ _. omega arith) (λ _. run-most (f .bytes) 1 R))
@@ -253,7 +229,7 @@ module _ (f : Frame) (R : ℕ) (t : Bool) (p : CodePlan) (plans : countsIn p ≡
   unfolding kindInk
   pixel-ink s u j h = go t u (subst (λ (c : Counts). j < c .pixels) plans h)
     where
-      go : (t u : Bool) → j < pick t (counts 0 0 (refuses (refusal 5 0 0))) (runCounts (f .bytes) 1 R) .pixels
+      go : (t u : Bool) → j < pick t (counts 0 0 (refused (refusal 5 0 0))) (runCounts (f .bytes) 1 R) .pixels
           → solid (pick u (f .white) (f .black)) ≡ inkBy f (pick t NoOrder (pick u White Black)) s j
       go true u h = absurd (omega arith)
       go false true h = refl
@@ -293,15 +269,15 @@ module _ (f : CodeFrame) (src dst : List ℕ) (s : CodeState) (t : Bool) {u : Co
       ∙ image-ink (frameOf f) (stateOf (frameOf f) src dst s) (s .pos) src refl t m)
       p
 
-  pub image-paintable : Framed (length dst) (frameOf f) → Sound (frameOf f) s → (n : ℕ) → 1 ≤ n → (p : CodePlan)
+  pub image-paintable : Framed (length dst) (frameOf f) → Invariant (frameOf f) s → (n : ℕ) → 1 ≤ n → (p : CodePlan)
       → countsIn p ≡ countsOf (f .depth .bytes) (pick t SetFgBgImage FgBgImage) n (length src - s .pos) (f .total - s .pixels)
       → Paintable (f .depth .bytes) (f .width) (s .pixels) (p .pixels) dst i
       × (Paintable (f .depth .bytes) (f .width) (s .pixels) (p .pixels) dst j × (p .pixels ≤ (length src - (s .pos + size)) * 8))
-  image-paintable frame sound n one p plans =
+  image-paintable frame invariant n one p plans =
       let k = pick t SetFgBgImage FgBgImage in
-      let w = within (frameOf f) s frame sound k n (length src - s .pos) one p plans in
+      let w = within (frameOf f) s frame invariant k n (length src - s .pos) one p plans in
       let enough = subst (λ (c : Counts). c .pixels ≤ (length src - s .pos - pick t (f .depth .bytes) 0) * 8) (sym plans)
       (image-enough (f .depth .bytes) n (length src - s .pos) (f .total - s .pixels) t) in (
-        rw (fg, state) (paintable dst (p .pixels) _ frame sound (w .pixels) (fg-row sound) (kind-of-depth frame (sound .foreground) (drop (s .pos) src) k)),
-        (rw (bg, state) (paintable dst (p .pixels) _ frame sound (w .pixels) (bg-row sound) (frame .black)), rw sized (omega (arith, enough))),
+        rw (fg, state) (paintable dst (p .pixels) _ frame invariant (w .pixels) (row-reach AboveXor invariant) (kind-of-depth frame (invariant .foreground) (drop (s .pos) src) (leaves k))),
+        (rw (bg, state) (paintable dst (p .pixels) _ frame invariant (w .pixels) (row-reach Above invariant) (frame .black)), rw sized (omega (arith, enough))),
       )

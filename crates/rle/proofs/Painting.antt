@@ -17,7 +17,8 @@ use Rattle.rle.specs.declared.paint.Ink.{Ink as CodeInk}
 use Rattle.picture.specs.Pixels.{Pixel, pick, firstPixel, pixelAt, xorPixel, OfDepth}
 use Rattle.definition.specs.Decode.{Ink, solid, color, paint, pixelAbove, insertInk, maskInk, ditherInk}
 use Rattle.definition.specs.Plan.{imageInk}
-use Rattle.rle.specs.Contracts.{pixelsOf, storePixel, HasPlace, Paintable, PaintedOne, Painted, reach, inkOf, solidInk}
+use Rattle.rle.specs.Stored.{pixelsOf, storePixel}
+use Rattle.rle.specs.Painting.{HasPlace, Paintable, PaintedOne, Painted, reach, inkOf, solidInk}
 use Rattle.picture.proofs.Pixels.{first-pixel-cong, getD-first-pixel, length-first-pixel}
 use Rattle.definition.proofs.Painting.{paint-cong, paint-add}
 use Rattle.rle.proofs.Pixels.{length-pixelsOf, getD-pixelsOf, store-before, store-there, store-after}

@@ -10,7 +10,7 @@ use lib.ListN.{length, getD, take, drop, set, length-append, length-drop, List·
 use lib.Seq.{getD-drop, getD-take, take-at, drop-at, sets-eq, take-add, length-take-le, getD-at, drop-paste}
 use Rattle.picture.specs.Pixels.{Pixel, firstPixel, pixelAt, bytesOf}
 use Rattle.picture.proofs.Pixels.{first-pixel-cong, take-first-pixel}
-use Rattle.rle.specs.Contracts.{pixelsOf, storePixel}
+use Rattle.rle.specs.Stored.{pixelsOf, storePixel}
 
 -- ---- the first n pixels
 

@@ -12,7 +12,7 @@ use Rattle.picture.specs.declared.outcome.Outcome.the-variants.{Ok, Err}
 use Rattle.picture.specs.declared.outcome.RleError.the-variants.{InvalidBpp, EmptyImage, DimensionsTooLarge, BufferTooShort, BadOrderCode, NotEnoughBytes, InvalidImageSize, UnexpectedZeroLength}
 use Rattle.picture.specs.Pixels.{bytesOf}
 use Rattle.picture.specs.Sizes.{Refusal, Checked, rejected, accepted, checked, withSpace}
-use Rattle.definition.specs.Decode.{Result, ofChecked, result, resultIn}
+use Rattle.definition.specs.Decode.{Result, ofChecked, result, resultIn, Summary}
 use Rattle.picture.specs.Outcomes.{refusalIn}
 use Rattle.rle.specs.Report.{Agrees, Decompresses}
 use Rattle.rle.specs.Guarantees.{spaceFor, HasSpace, Defined, NoOldByte, isOk}
@@ -33,14 +33,12 @@ pub defined : (src : List ℕ) (bpp w h : ℕ) (before after : List ℕ) (r : Re
     → Decompresses src bpp w h before after r → HasSpace before bpp w h → Defined src bpp w h before after r
 defined src bpp w h before after r d space =
     let e = with-space src bpp w h before after r d space in
+    let pixels = ap (λ (x : Summary). x .pixels) (e .report) in
     record {
-      refusal = e .refusal;
-      format = e .format;
-      pixels = e .pixels;
-      orders = e .orders;
-      painted = rw (e .pixels, e .target) (take-at _ _ _ (e .painted));
+      report = e .report;
+      painted = rw (pixels, e .target) (take-at _ _ _ (e .painted));
       kept =
-          rw (e .pixels)
+          rw pixels
           (ap (λ (l : List ℕ). drop (length (result src bpp w h .painted) * result src bpp w h .bytes) l) (e .target)
           ∙ drop-at (bytesOf (result src bpp w h .bytes) (result src bpp w h .painted)) _ _ (e .painted));
       within = e .within;
@@ -56,18 +54,15 @@ no-old-byte src bpp w h before₁ after₁ r₁ before₂ after₂ r₂ d₁ d�
     let a = defined src bpp w h before₁ after₁ r₁ d₁ s₁ in
     let b = defined src bpp w h before₂ after₂ r₂ d₂ s₂ in
     record {
-      refusal = a .refusal ∙ sym (b .refusal);
-      format = a .format ∙ sym (b .format);
-      pixels = a .pixels ∙ sym (b .pixels);
-      orders = a .orders ∙ sym (b .orders);
+      report = a .report ∙ sym (b .report);
       painted = a .painted ∙ sym (b .painted);
       first = a;
       second = b;
     }
 
--- a call answers Ok exactly where the definition refuses nothing
+-- a call answers Ok exactly where the definition refused nothing
 pub accepts : (src before after : List ℕ) (total : ℕ) (r : Report) (e : Result) → Agrees src before after total r e → isOk (r .outcome) ≡ eqb (e .refusal .number) 0
-accepts src before after total r e d = go (r .outcome) ∙ ap (λ (x : Refusal). eqb (x .number) 0) (d .refusal)
+accepts src before after total r e d = go (r .outcome) ∙ ap (λ (x : Refusal). eqb (x .number) 0) (ap (λ (x : Summary). x .refusal) (d .report))
   where
     go : (o : Outcome) → isOk o ≡ eqb (refusalIn o .number) 0
     go (Ok k) = refl

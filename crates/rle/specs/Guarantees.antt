@@ -10,8 +10,8 @@ use Rattle.picture.specs.declared.outcome.Outcome.{Outcome}
 use Rattle.picture.specs.declared.outcome.Outcome.the-variants.{Ok, Err}
 use Rattle.picture.specs.Pixels.{bytesOf}
 use Rattle.picture.specs.Sizes.{Checked, rejected, accepted, checked}
-use Rattle.definition.specs.Decode.{result}
-use Rattle.picture.specs.Outcomes.{refusalIn, formatIn}
+use Rattle.definition.specs.Decode.{result, summaryOf}
+use Rattle.rle.specs.Report.{summaryIn}
 
 -- a target of `given` bytes has space for the picture; where refusal 1, 2 or 3 comes, every target has
 abbrev pub spaceFor : ℕ → Checked → Type 0
@@ -23,10 +23,7 @@ HasSpace target bpp w h = spaceFor (length target) (checked bpp w h)
 
 -- one call: report and painted bytes are those of the definition, which sees no target, and the target keeps its own bytes past them
 pub record Defined (src : List ℕ) (bpp w h : ℕ) (before after : List ℕ) (r : Report) : Type 0 where
-  pub refusal : refusalIn (r .outcome) ≡ result src bpp w h .refusal
-  pub format : formatIn (r .outcome) ≡ result src bpp w h .format
-  pub pixels : r .pixels ≡ length (result src bpp w h .painted)
-  pub orders : r .orders ≡ result src bpp w h .orders
+  pub report : summaryIn r ≡ summaryOf (result src bpp w h)
   pub painted : take (r .pixels * result src bpp w h .bytes) after ≡ bytesOf (result src bpp w h .bytes) (result src bpp w h .painted)
   pub kept : drop (r .pixels * result src bpp w h .bytes) after ≡ drop (r .pixels * result src bpp w h .bytes) before
   pub within : r .pixels ≤ w * h
@@ -35,10 +32,7 @@ pub record Defined (src : List ℕ) (bpp w h : ℕ) (before after : List ℕ) (r
 
 -- two calls with one stream, depth and size into any two targets with space: no old byte shows
 pub record NoOldByte (src : List ℕ) (bpp w h : ℕ) (before₁ after₁ : List ℕ) (r₁ : Report) (before₂ after₂ : List ℕ) (r₂ : Report) : Type 0 where
-  pub refusal : refusalIn (r₁ .outcome) ≡ refusalIn (r₂ .outcome)
-  pub format : formatIn (r₁ .outcome) ≡ formatIn (r₂ .outcome)
-  pub pixels : r₁ .pixels ≡ r₂ .pixels
-  pub orders : r₁ .orders ≡ r₂ .orders
+  pub report : summaryIn r₁ ≡ summaryIn r₂
   pub painted : take (r₁ .pixels * result src bpp w h .bytes) after₁ ≡ take (r₂ .pixels * result src bpp w h .bytes) after₂
   pub first : Defined src bpp w h before₁ after₁ r₁
   pub second : Defined src bpp w h before₂ after₂ r₂

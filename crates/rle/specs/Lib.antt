@@ -1,3 +1,10 @@
 pub mod Report
-pub mod Contracts
 pub mod Guarantees
+pub mod Stored
+pub mod Heads
+pub mod Planning
+pub mod Painting
+pub mod States
+pub mod Orders
+pub mod Walks
+pub mod Reporting

@@ -4,18 +4,20 @@ ghost use mathlib.Core.Bool.{true};
 ghost use Prim.Native.Nat.{_≤_};
 ghost use lib.ListN.{length};
 ghost use Rattle.definition.specs.Codes as codes;
-ghost use Rattle.rle.specs.Contracts.{frameOf, Framed, Going, GoneTo, Ran};
+ghost use Rattle.rle.specs.States.{frameOf, Framed};
+ghost use Rattle.rle.specs.Orders.{BetweenOrders, Decodes, DecodesTo};
+use crate::head::Head;
+use crate::head::read_head;
 use crate::header::header_kinds;
 use crate::header::header_lengths;
 use crate::order::order;
-use crate::plan::Answer;
+use crate::plan::Ending;
 use crate::state::Frame;
 use crate::state::State;
 use crate::state::Stepped;
 use crate::state::end_first_row;
+use crate::state::moved;
 use crate::state::start;
-use buf::Read;
-use buf::u8_from;
 
 // Orders from the state s on until `limit` pixels are painted, or to the stream's end or its refusal. In the first row the limit is
 // its end, so that no order has to look for it.
@@ -30,28 +32,38 @@ pub(crate) fn orders_to(
 ) -> Stepped
     requires { ⌜ Framed (length (now dst)) (frameOf f) ⌝ }
     requires { ⌜ (now kinds ≡ codes.kinds) × (now lengths ≡ codes.lengths) ⌝ }
-    requires { ⌜ Going (frameOf f) (now src) (now dst) (now dst) s ⌝ }
+    requires { ⌜ BetweenOrders (frameOf f) (now src) (now dst) (now dst) s ⌝ }
     requires { ⌜ (s .«first_row» ≡ true → limit ≤ f .width) ⌝ }
-    ensures { λ r. ⌜ GoneTo limit (frameOf f) (now (src .entry)) (now (dst .entry)) (now (dst .exit)) s r ⌝ }
+    ensures { λ r. ⌜ DecodesTo limit (frameOf f) (now (src .entry)) (now (dst .entry)) (now (dst .exit)) s r ⌝ }
 {
     let mut t = s;
     while t.pixels < limit {
-        let pos = t.pos;
-        let Read::Value(header) = u8_from(src, pos) else {
-            return Stepped {
-                answer: Answer::Done,
-                state: t,
-            };
-        };
-        let r = order(src, dst, kinds, lengths, f, t, header);
-        let a = r.answer;
-        if let Answer::Refused(_) = a {
-            return r;
+        let h = read_head(src, kinds, lengths, t.pos);
+        match h {
+            Head::End => {
+                return Stepped {
+                    ending: Ending::Complete,
+                    state: t,
+                };
+            }
+            Head::Refused(e, next) => {
+                return Stepped {
+                    ending: Ending::Refused(e),
+                    state: moved(t, next),
+                };
+            }
+            Head::Order(kind, n, next) => {
+                let r = order(src, dst, f, moved(t, next), kind, n);
+                let e = r.ending;
+                if let Ending::Refused(_) = e {
+                    return r;
+                }
+                t = r.state;
+            }
         }
-        t = r.state;
     }
     Stepped {
-        answer: Answer::Done,
+        ending: Ending::Complete,
         state: t,
     }
 }
@@ -59,7 +71,7 @@ pub(crate) fn orders_to(
 // All orders of the stream.
 pub(crate) fn decompress_impl(src: &[u8], dst: &mut [u8], f: Frame) -> Stepped
     requires { ⌜ Framed (length (now dst)) (frameOf f) ⌝ }
-    ensures { λ r. ⌜ Ran (frameOf f) (now (src .entry)) (now (dst .entry)) (now (dst .exit)) r ⌝ }
+    ensures { λ r. ⌜ Decodes (frameOf f) (now (src .entry)) (now (dst .entry)) (now (dst .exit)) r ⌝ }
 {
     let kinds = header_kinds();
     let lengths = header_lengths();
@@ -68,8 +80,8 @@ pub(crate) fn decompress_impl(src: &[u8], dst: &mut [u8], f: Frame) -> Stepped
     // Two turns at most, the first row and the rest: one call, so that the compiler makes one loop of both.
     loop {
         let r = orders_to(src, dst, &kinds, &lengths, f, s, limit);
-        let a = r.answer;
-        if let Answer::Refused(_) = a {
+        let e = r.ending;
+        if let Ending::Refused(_) = e {
             return r;
         }
         let t = r.state;

@@ -1,17 +1,20 @@
 // Decoder of interleaved RLE bitmaps (MS-RDPBCGR 2.2.9.1.1.3.1.2.4 and 3.1.9), a port of IronRDP's rle.rs.
 //
-// What a stream means is defined in specs/Decode.antt; what `decompress` promises of it, in specs/Report.antt.
-ghost use Rattle.definition.specs.Decode.{result};
-ghost use Rattle.rle.specs.Report.{Decompresses, Reported};
+// What a stream means is defined in the crate `definition`; what `decompress` promises of it, in specs/Report.antt.
+ghost use mathlib.Core.Path.{_≡_};
+ghost use Rattle.definition.specs.Decode.{result, summaryOf};
+ghost use Rattle.rle.specs.Report.{summaryIn, Decompresses};
 
-pub(crate) mod code;
 pub(crate) mod decode;
+pub(crate) mod head;
 pub(crate) mod header;
+pub(crate) mod image;
 pub(crate) mod order;
 pub(crate) mod paint;
 pub(crate) mod pixel;
 pub(crate) mod plan;
 pub mod report;
+pub(crate) mod run;
 pub(crate) mod state;
 pub(crate) mod walk;
 
@@ -45,16 +48,16 @@ pub fn decompress(src: &[u8], dst: &mut [u8], width: usize, height: usize, bpp: 
                 total: width * height,
             };
             let r = decompress_impl(src, dst, f);
-            let a = r.answer;
+            let e = r.ending;
             let s = r.state;
-            report_of(a, s.pixels, s.orders, depth.format)
+            report_of(e, s.pixels, s.orders, depth.format)
         }
     }
 }
 
 // What `decompress` reports of the stream in every target that has space, without one.
 pub fn count_orders(src: &[u8], width: usize, height: usize, bpp: usize) -> Report
-    ensures { λ r. ⌜ Reported r (result (now (src .entry)) bpp width height) ⌝ }
+    ensures { λ r. ⌜ summaryIn r ≡ summaryOf (result (now (src .entry)) bpp width height) ⌝ }
 {
     let size = picture_size(width, height, bpp);
     match size {
@@ -67,9 +70,9 @@ pub fn count_orders(src: &[u8], width: usize, height: usize, bpp: usize) -> Repo
                 total: width * height,
             };
             let r = walk_stream(src, f);
-            let a = r.answer;
+            let e = r.ending;
             let s = r.state;
-            report_of(a, s.pixels, s.orders, depth.format)
+            report_of(e, s.pixels, s.orders, depth.format)
         }
     }
 }

@@ -6,7 +6,7 @@ ghost use lib.ListN.{length, drop};
 ghost use Rattle.picture.specs.Pixels.{pick, firstPixel, pixelAt, OfDepth};
 ghost use Rattle.definition.specs.Decode as decode;
 ghost use Rattle.definition.specs.Plan.{imageInk};
-ghost use Rattle.rle.specs.Contracts.{HasPlace, Paintable, PaintedOne, Painted, inkOf, solidInk};
+ghost use Rattle.rle.specs.Painting.{HasPlace, Paintable, PaintedOne, Painted, inkOf, solidInk};
 use crate::pixel::read_pixel;
 use crate::pixel::write_pixel;
 use crate::pixel::xor;
@@ -121,18 +121,6 @@ pub(crate) fn paint_bg_run(
     paint_run(dst, d, w, k, n, bg)
 }
 
-// Pixel k, by a bit of a mask.
-pub(crate) fn paint_bit(dst: &mut [u8], d: usize, w: usize, k: usize, bit: u8, fg: Ink, bg: Ink)
-    requires { ⌜ Paintable d w k 1 (now dst) fg ⌝ }
-    requires { ⌜ Paintable d w k 1 (now dst) bg ⌝ }
-    ensures { λ _. ⌜ PaintedOne d w (pick (eqb bit 1) (inkOf fg) (inkOf bg)) k (now (dst .entry)) (now (dst .exit)) ⌝ }
-{
-    if bit == 1 {
-        return paint_pixel(dst, d, w, k, fg);
-    }
-    paint_pixel(dst, d, w, k, bg)
-}
-
 // n pixels from number k on, by the bits of a mask.
 pub(crate) fn paint_mask(
     dst: &mut [u8],
@@ -151,7 +139,11 @@ pub(crate) fn paint_mask(
     let mut m = mask;
     let mut i = 0;
     while i < n {
-        paint_bit(dst, d, w, k + i, m % 2, fg, bg);
+        if m % 2 == 1 {
+            paint_pixel(dst, d, w, k + i, fg);
+        } else {
+            paint_pixel(dst, d, w, k + i, bg);
+        }
         m = m / 2;
         i += 1;
     }

@@ -3,7 +3,7 @@ ghost use mathlib.Core.Path.{_≡_};
 ghost use Prim.Native.Nat.{_+_, _≤_};
 ghost use lib.ListN.{length, drop};
 ghost use Rattle.picture.specs.Pixels.{firstPixel, xorPixel};
-ghost use Rattle.rle.specs.Contracts.{storePixel};
+ghost use Rattle.rle.specs.Stored.{storePixel};
 
 // The pixel of d bytes whose first one is s[at].
 pub(crate) fn read_pixel(s: &[u8], d: usize, at: usize) -> [u8; 3]

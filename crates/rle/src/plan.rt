@@ -10,12 +10,12 @@ ghost use Rattle.picture.specs.Pixels.{pick};
 ghost use Rattle.picture.specs.Sizes.{refusal};
 ghost use Rattle.definition.specs.Orders as orders;
 ghost use Rattle.definition.specs.Plan as plan;
-ghost use Rattle.rle.specs.Contracts.{countsIn};
+ghost use Rattle.rle.specs.Planning.{countsIn};
 use picture::RleError;
 
 // How an order, or a whole stream, ends.
-pub(crate) enum Answer {
-    Done,
+pub(crate) enum Ending {
+    Complete,
     Refused(RleError),
 }
 
@@ -23,38 +23,38 @@ pub(crate) enum Answer {
 pub(crate) struct Plan {
     pub(crate) read: usize,
     pub(crate) pixels: usize,
-    pub(crate) answer: Answer,
+    pub(crate) ending: Ending,
 }
 
 pub(crate) fn complete(read: usize, pixels: usize) -> Plan
-    ensures { λ r. ⌜ countsIn r ≡ plan.counts read pixels plan.Ending.completes ⌝ }
+    ensures { λ r. ⌜ countsIn r ≡ plan.counts read pixels plan.Ending.complete ⌝ }
 {
     Plan {
         read,
         pixels,
-        answer: Answer::Done,
+        ending: Ending::Complete,
     }
 }
 
 pub(crate) fn too_short(read: usize, pixels: usize, expected: usize, actual: usize) -> Plan
-    ensures { λ r. ⌜ countsIn r ≡ plan.counts read pixels (plan.Ending.refuses (refusal 6 expected actual)) ⌝ }
+    ensures { λ r. ⌜ countsIn r ≡ plan.counts read pixels (plan.Ending.refused (refusal 6 expected actual)) ⌝ }
 {
     Plan {
         read,
         pixels,
-        answer: Answer::Refused(RleError::NotEnoughBytes { expected, actual }),
+        ending: Ending::Refused(RleError::NotEnoughBytes { expected, actual }),
     }
 }
 
 // n pixels of which the picture has no room for all.
 pub(crate) fn too_large(read: usize, pixels: usize, room: usize, n: usize, d: usize) -> Plan
     requires { ⌜ (d ≤ 3) × (room ≤ 67108864) × (n ≤ 131072) ⌝ }
-    ensures { λ r. ⌜ countsIn r ≡ plan.counts read pixels (plan.Ending.refuses (refusal 7 (room * d) (n * d))) ⌝ }
+    ensures { λ r. ⌜ countsIn r ≡ plan.counts read pixels (plan.Ending.refused (refusal 7 (room * d) (n * d))) ⌝ }
 {
     Plan {
         read,
         pixels,
-        answer: Answer::Refused(RleError::InvalidImageSize {
+        ending: Ending::Refused(RleError::InvalidImageSize {
             maximum_additional: room * d,
             required_additional: n * d,
         }),
@@ -117,13 +117,13 @@ pub(crate) fn plan_dithered_run(d: usize, room: usize, n: usize, left: usize) ->
 // A white or black pixel, by the kind's number, or no order.
 pub(crate) fn plan_one_pixel(d: usize, room: usize, kind: u8) -> Plan
     requires { ⌜ (d ≤ 3) × (room ≤ 67108864) ⌝ }
-    ensures { λ r. ⌜ countsIn r ≡ pick (ltb 11 kind) (plan.counts 0 0 (plan.Ending.refuses (refusal 5 0 0))) (plan.runCounts d 1 room) ⌝ }
+    ensures { λ r. ⌜ countsIn r ≡ pick (ltb 11 kind) (plan.counts 0 0 (plan.Ending.refused (refusal 5 0 0))) (plan.runCounts d 1 room) ⌝ }
 {
     if 11 < kind {
         return Plan {
             read: 0,
             pixels: 0,
-            answer: Answer::Refused(RleError::BadOrderCode),
+            ending: Ending::Refused(RleError::BadOrderCode),
         };
     }
     plan_run(d, room, 1)

@@ -3,8 +3,9 @@ ghost use mathlib.Core.Path.{_≡_};
 ghost use Prim.Native.Nat.{_<_};
 ghost use Rattle.picture.specs.Sizes.{depthIndex};
 ghost use Rattle.picture.specs.Outcomes.{formatOf};
-ghost use Rattle.rle.specs.Contracts.{Reports, notDecoded};
-use crate::plan::Answer;
+ghost use Rattle.rle.specs.Report.{summaryIn};
+ghost use Rattle.rle.specs.Reporting.{summaryAfter, notDecoded};
+use crate::plan::Ending;
 use picture::Outcome;
 use picture::RleError;
 use picture::RlePixelFormat;
@@ -30,18 +31,18 @@ pub(crate) fn pixel_format(format: u8) -> RlePixelFormat
 }
 
 // The report of a stream that was followed to its end or its refusal.
-pub(crate) fn report_of(a: Answer, pixels: usize, orders: usize, format: u8) -> Report
+pub(crate) fn report_of(e: Ending, pixels: usize, orders: usize, format: u8) -> Report
     requires { ⌜ depthIndex format < 4 ⌝ }
-    ensures { λ r. ⌜ Reports a pixels orders format r ⌝ }
+    ensures { λ r. ⌜ summaryIn r ≡ summaryAfter e format pixels orders ⌝ }
 {
-    match a {
-        Answer::Done => Report {
+    match e {
+        Ending::Complete => Report {
             outcome: Outcome::Ok(pixel_format(format)),
             pixels,
             orders,
         },
-        Answer::Refused(e) => Report {
-            outcome: Outcome::Err(e),
+        Ending::Refused(error) => Report {
+            outcome: Outcome::Err(error),
             pixels,
             orders,
         },

@@ -1,10 +1,14 @@
 // The decoder's frame and state, and what its orders paint with.
 ghost use mathlib.Core.Path.{_≡_};
-ghost use Rattle.rle.specs.Contracts.{fgOf, bgOf, startOf, atPos, firstRowEnded, Fits, finishedOf};
+ghost use Prim.Native.Nat.{_≤_};
+ghost use lib.ListN.{length, drop};
+ghost use Rattle.definition.specs.Plan as plan;
+ghost use Rattle.rle.specs.States.{rowInk, fgOf, bgOf, withFg, startOf, atPos, firstRowEnded, Fits, finishedOf};
 use crate::paint::Ink;
 use crate::paint::Mode;
 use crate::paint::solid;
-use crate::plan::Answer;
+use crate::pixel::read_pixel;
+use crate::plan::Ending;
 use crate::plan::Plan;
 use picture::Depth;
 
@@ -28,7 +32,7 @@ pub(crate) struct State {
 }
 
 pub(crate) struct Stepped {
-    pub(crate) answer: Answer,
+    pub(crate) ending: Ending,
     pub(crate) state: State,
 }
 
@@ -81,20 +85,33 @@ pub(crate) fn finished(s: State, p: Plan, insert: bool) -> Stepped
     let mut t = s;
     t.pos = s.pos + p.read;
     t.pixels = s.pixels + p.pixels;
-    let a = p.answer;
+    let a = p.ending;
     match a {
-        Answer::Refused(e) => Stepped {
-            answer: Answer::Refused(e),
+        Ending::Refused(e) => Stepped {
+            ending: Ending::Refused(e),
             state: t,
         },
-        Answer::Done => {
+        Ending::Complete => {
             t.insert = insert;
             t.orders = s.orders + 1;
             Stepped {
-                answer: Answer::Done,
+                ending: Ending::Complete,
                 state: t,
             }
         }
+    }
+}
+
+// In the first row a color; later by the pixel above, in the mode `later`.
+pub(crate) fn row_ink(first: bool, later: Mode, p: [u8; 3]) -> Ink
+    ensures { λ r. ⌜ r ≡ rowInk first later p ⌝ }
+{
+    if first {
+        return solid(p);
+    }
+    Ink {
+        mode: later,
+        pixel: p,
     }
 }
 
@@ -102,13 +119,7 @@ pub(crate) fn fg_ink(s: State) -> Ink
     ensures { λ r. ⌜ r ≡ fgOf s ⌝ }
 {
     let p = s.foreground;
-    if s.first_row {
-        return solid(p);
-    }
-    Ink {
-        mode: Mode::AboveXor,
-        pixel: p,
-    }
+    row_ink(s.first_row, Mode::AboveXor, p)
 }
 
 pub(crate) fn bg_ink(f: Frame, s: State) -> Ink
@@ -116,11 +127,20 @@ pub(crate) fn bg_ink(f: Frame, s: State) -> Ink
 {
     let d = f.depth;
     let p = d.black;
-    if s.first_row {
-        return solid(p);
+    row_ink(s.first_row, Mode::Above, p)
+}
+
+// The state with the foreground that stands next in the stream, where its bytes are there.
+pub(crate) fn new_foreground(src: &[u8], d: usize, s: State) -> State
+    requires { ⌜ (1 ≤ d) × (d ≤ 3) × (s .pos ≤ length (now src)) ⌝ }
+    ensures { λ r. ⌜ r ≡ withFg s (plan.newForeground d (s .foreground) (drop (s .pos) (now (src .entry)))) ⌝ }
+{
+    let pos = s.pos;
+    if src.len() - pos < d {
+        return s;
     }
-    Ink {
-        mode: Mode::Above,
-        pixel: p,
-    }
+    let p = read_pixel(src, d, pos);
+    let mut t = s;
+    t.foreground = p;
+    t
 }

@@ -37,7 +37,7 @@ returns-2 c =
     let k = c .before .before .before .before .before .before in
     let a = k .before .before .args in
     counts-walked (a .bpp) (a .width) (a .height) (matched (c .before .before .before .before .enum-told .given .1) (k .picture-size .ensures)) (c .before .before .before .depth-of .ensures)
-    (a .src .now) _ (c .before .before .walk-stream .ensures) (c .report-of .ensures)
+    (a .src .now) _ (c .before .before .walk-stream .ensures) (c .report-of .result) (c .report-of .ensures)
 
 pub count-orders-spec : {M : Type 1} → statement M
 count-orders-spec =

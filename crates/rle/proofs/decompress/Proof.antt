@@ -54,7 +54,7 @@ returns-3 c =
     let p = k .before .before in
     let a = p .before .before .before .args in
     reports-decoded (a .bpp) (a .width) (a .height) (matched (k .size2 .given .1) (p .picture-size .ensures)) (d .depth-of .ensures) (a .dst .now) (d .before .if1 .left)
-    (a .src .now) _ _ (i .decompress-impl .kept .1 .0) (λ j. omega (arith, p .before .before .shared-slice-known .given j)) (i .decompress-impl .ensures) (c .report-of .ensures)
+    (a .src .now) _ _ (i .decompress-impl .kept .1 .0) (λ j. omega (arith, p .before .before .shared-slice-known .given j)) (i .decompress-impl .ensures) (c .report-of .result) (c .report-of .ensures)
 
 pub decompress-spec : {M : Type 1} → statement M
 decompress-spec =

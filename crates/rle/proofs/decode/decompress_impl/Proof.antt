@@ -5,16 +5,17 @@ use mathlib.Core.Bool.{true}
 use Prim.Native.Nat.{_+_, _-_, _≤_}
 use native.Mathlib.Nat.{le-refl}
 use native.Mathlib.Omega.{arith}
-use Rattle.rle.specs.Contracts.{frameOf, Going}
+use Rattle.rle.specs.States.{frameOf}
+use Rattle.rle.specs.Orders.{BetweenOrders}
 use Rattle.rle.proofs.FirstRow.{row-begun}
-use Rattle.rle.proofs.Stream.{going-start, going-here, going-end, going-marked, gone-stop, gone-on}
+use Rattle.rle.proofs.Stream.{between-start, between-here, between-end, between-marked, decoded-refused, decoded-on}
 use borrow.Author.Needs.{needs}
 use Rattle.rle.proofs.decode.decompress_impl.Statement.{statement}
 use Rattle.rle.proofs.decode.decompress_impl.Tie as tie
 
 abbrev Inv-loop : tie.InvT-loop
 Inv-loop src dst₀ f kinds lengths s₀ limit₀ dst s limit =
-    Going (frameOf f) src dst₀ dst s × (s .«first_row» ≡ true → limit ≤ f .width) × (f .width ≤ limit)
+    BetweenOrders (frameOf f) src dst₀ dst s × (s .«first_row» ≡ true → limit ≤ f .width) × (f .width ≤ limit)
 
 abbrev μ-loop : tie.MeasureT-loop
 μ-loop src dst₀ f kinds lengths s₀ limit₀ dst s limit = f .total + 1 - limit
@@ -22,14 +23,14 @@ abbrev μ-loop : tie.MeasureT-loop
 loop-holds : tie.Need-loop-holds Inv-loop μ-loop
 loop-holds c =
     let s = c .before .before .before .before .before in
-    (rw (c .start .ensures) (going-start (s .args .f) _ _ (s .pre)), λ _. le-refl _, le-refl _)
+    (rw (c .start .ensures) (between-start (s .args .f) _ _ (s .pre)), λ _. le-refl _, le-refl _)
 
 orders-to-requires : tie.Need-orders-to-requires Inv-loop μ-loop
 orders-to-requires c κs =
     let l = c .before .before .before in
     let s = l .before .before .before .before .before .before in
     let i = l .loop .inv in
-    (rw (i .0 .same) (s .pre), ((l .before .before .before .header-kinds .ensures, l .before .before .header-lengths .ensures), (going-here _ _ _ _ _ (i .0), i .1)))
+    (rw (i .0 .same) (s .pre), ((l .before .before .before .header-kinds .ensures, l .before .before .header-lengths .ensures), (between-here _ _ _ _ _ (i .0), i .1)))
 
 same-length : tie.Need-same-length Inv-loop μ-loop
 same-length c =
@@ -39,7 +40,7 @@ same-length c =
 returns : tie.Need-returns Inv-loop μ-loop
 returns c =
     let t = c .before .before .before .before in
-    gone-stop _ _ _ _ _ (t .before .before .before .before .loop .inv .0) _ _ _ (t .orders-to .ensures) _ (c .enum-told .given .1)
+    decoded-refused _ _ _ _ _ (t .before .before .before .before .loop .inv .0) _ _ _ (t .orders-to .ensures) _ (c .enum-told .given .1)
 
 same-length-2 : tie.Need-same-length-2 Inv-loop μ-loop
 same-length-2 c =
@@ -50,8 +51,8 @@ returns-2 : tie.Need-returns-2 Inv-loop μ-loop
 returns-2 c =
     let t = c .before .before .before .before .before .before .before in
     let done = c .before .before .before .enum-told2 .given .1 in
-    let g = gone-on _ _ _ _ _ (t .before .before .before .before .loop .inv .0) _ _ _ (t .orders-to .ensures) done in
-    going-end _ _ _ _ _ (g .0) done (c .if1 .taken)
+    let g = decoded-on _ _ _ _ _ (t .before .before .before .before .loop .inv .0) _ _ _ (t .orders-to .ensures) done in
+    between-end _ _ _ _ _ (g .0) done (c .if1 .taken)
 
 add-limit : tie.Need-add-limit Inv-loop μ-loop
 add-limit c =
@@ -61,20 +62,20 @@ add-limit c =
 loop-less : tie.Need-loop-less Inv-loop μ-loop
 loop-less c =
     let t = c .before .before .before .before .before .before .before .before .before in
-    let g = gone-on _ _ _ _ _ (t .before .before .before .before .loop .inv .0) _ _ _ (t .orders-to .ensures) (c .before .before .before .before .before .enum-told2 .given .1) in
-    omega (arith, g .0 .sound .within, g .1 (c .before .before .if1 .left))
+    let g = decoded-on _ _ _ _ _ (t .before .before .before .before .loop .inv .0) _ _ _ (t .orders-to .ensures) (c .before .before .before .before .before .enum-told2 .given .1) in
+    omega (arith, g .0 .invariant .within, g .1 (c .before .before .if1 .left))
 
 loop-again : tie.Need-loop-again Inv-loop μ-loop
 loop-again c =
     let t = c .before .before .before .before .before .before .before .before .before in
     let l = t .before .before .before .before in
     let f = l .before .before .before .before .before .before .args .f in
-    let g = gone-on _ _ _ _ _ (l .loop .inv .0) _ _ _ (t .orders-to .ensures) (c .before .before .before .before .before .enum-told2 .given .1) in
+    let g = decoded-on _ _ _ _ _ (l .loop .inv .0) _ _ _ (t .orders-to .ensures) (c .before .before .before .before .before .enum-told2 .given .1) in
     let inside = c .before .before .if1 .left in
     let e = c .before .end-first-row .ensures in (
-      rw e (going-marked f _ _ _ _ (g .0) inside),
+      rw e (between-marked f _ _ _ _ (g .0) inside),
       λ first. absurd (omega (arith, row-begun f (t .orders-to .result .state) (rw e at first), g .1 inside, l .loop .inv .2)),
-      omega (arith, g .0 .sound .within, g .1 inside, l .loop .inv .2),
+      omega (arith, g .0 .invariant .within, g .1 inside, l .loop .inv .2),
     )
 
 pub decompress-impl-spec : {M : Type 1} → statement M

@@ -1,22 +1,23 @@
 -- `orders_to` meets its contract. The invariant: what is left of the stream gives what the whole stream gives, and the first row
 -- does not end before the limit. Assumes nothing.
-use mathlib.Core.Path.{_≡_, sym, _∙_}
+use mathlib.Core.Path.{_≡_, refl, sym, _∙_}
 use mathlib.Core.Bool.{true}
-use Prim.Native.Nat.{_-_, _≤_}
+use Prim.Native.Nat.{_-_, _≤_, _<_}
 use native.Mathlib.Nat.{le-refl}
 use lib.ListN.{length}
 use native.Mathlib.Omega.{arith}
-use Rattle.buf.proofs.Answers.{u8-is, u8-few}
-use Rattle.rle.specs.Contracts.{frameOf, Going}
+use Rattle.rle.specs.States.{frameOf}
+use Rattle.definition.specs.Decode.{step}
+use Rattle.rle.specs.Orders.{Executes, BetweenOrders}
 use Rattle.rle.proofs.FirstRow.{row-stays}
-use Rattle.rle.proofs.Stream.{going-stop, going-on}
+use Rattle.rle.proofs.Stream.{invariant-at, order-executes, order-refused, between-refused, between-on}
 use borrow.Author.Needs.{needs}
 use Rattle.rle.proofs.decode.orders_to.Statement.{statement}
 use Rattle.rle.proofs.decode.orders_to.Tie as tie
 
 abbrev Inv-loop : tie.InvT-loop
 Inv-loop src dst₀ kinds lengths f limit t₀ dst t =
-    Going (frameOf f) src dst₀ dst t × (t₀ .pixels ≤ t .pixels) × (t .«first_row» ≡ true → limit ≤ f .width)
+    BetweenOrders (frameOf f) src dst₀ dst t × (t₀ .pixels ≤ t .pixels) × (t .«first_row» ≡ true → limit ≤ f .width)
 
 abbrev μ-loop : tie.MeasureT-loop
 μ-loop src dst₀ kinds lengths f limit t₀ dst t = length src - t .pos
@@ -24,68 +25,101 @@ abbrev μ-loop : tie.MeasureT-loop
 loop-holds : tie.Need-loop-holds Inv-loop μ-loop
 loop-holds c = let s = c .before .before in (s .pre .1 .1 .0, le-refl _, s .pre .1 .1 .1)
 
+read-head-requires : tie.Need-read-head-requires Inv-loop μ-loop
+read-head-requires c κs = c .before .before .before .before .before .pre .1 .0
+
 same-length : tie.Need-same-length Inv-loop μ-loop
 same-length c = c .before .before .before .before .before .loop .inv .0 .same
 
 returns : tie.Need-returns Inv-loop μ-loop
 returns c =
-    let l = c .before .before .before .before .before .loop in
-    let few = u8-few _ _ _ _ _ (c .before .before .u8-from .ensures) (c .enum-told .given .1) in
-    record { grows = l .inv .1; gone = (l .inv .0, λ _. omega arith) }
-
-order-requires : tie.Need-order-requires Inv-loop μ-loop
-order-requires c κs =
-    let u = c .before .before .before .before in
-    let l = u .before .before .before .loop in
-    let s = u .before .before .before .before .before .before in
-    let read = u8-is _ _ _ _ (u .u8-from .ensures) (c .before .before .header .given .1) in
-    (rw (l .inv .0 .same) (s .pre .0), (l .inv .0 .sound, (s .pre .1 .0, ((omega arith, read .1), row-stays (s .args .f) _ (λ e. omega (arith, l .inv .2 e))))))
+    let i = c .before .before .before .before .before .loop .inv in
+    record { grows = i .1; decoded = (i .0, λ _. rw (c .enum-told .given .1) at (c .before .before .read-head .ensures)) }
 
 same-length-2 : tie.Need-same-length-2 Inv-loop μ-loop
-same-length-2 c =
-    let t = c .before .before .before .before in
-    t .order .kept .1 .0 ∙ t .before .before .before .before .before .before .before .before .loop .inv .0 .same
+same-length-2 c = c .before .before .before .before .before .before .before .loop .inv .0 .same
 
 returns-2 : tie.Need-returns-2 Inv-loop μ-loop
 returns-2 c =
+    let r = c .before .before .before .before in
+    let l = r .before .before .before .loop in
+    let s = r .before .before .before .before .before .before in
+    let at = rw (c .before .before .h .given .1) at (r .read-head .ensures) in
+    rw (c .moved .ensures)
+    (record {
+      grows = l .inv .1;
+      decoded =
+          between-refused _ _ _ _ _ (l .inv .0) (omega (arith, at .reads, at .place)) _ _
+          (order-refused (s .args .f) _ _ (l .t) (row-stays (s .args .f) _ (λ e. omega (arith, l .inv .2 e))) at (l .inv .0 .invariant)) (s .args .limit) _ refl;
+    })
+
+order-requires : tie.Need-order-requires Inv-loop μ-loop
+order-requires c κs =
+    let h = c .before .before .before in
+    let i = h .before .before .before .before .before .loop .inv in
+    let s = h .before .before .before .before .before .before .before .before in
+    let at = rw (h .h2 .given .1) at (h .before .before .read-head .ensures) in
+    (rw (i .0 .same) (s .pre .0), (rw (c .moved2 .ensures) (invariant-at _ (i .0 .invariant)), (rw (c .moved2 .ensures) (at .place), ((at .some, at .few), at .fixed))))
+
+-- the order is the definition's step, and reads on
+executes : (c : tie.After-order Inv-loop μ-loop)
+    → let l = c .before .before .before .before .before .before .before .before .before in
+    let a = l .before .before .before .args in
+    Executes (frameOf (a .f)) (a .src .now) (l .loop .dst) (c .order .last .1 .0) (l .loop .t) (c .order .result) (step (frameOf (a .f)))
+    × (l .loop .t .pos < c .order .result .state .pos)
+    × (l .loop .t .pos < length (a .src .now))
+executes c =
+    let h = c .before .before .before .before in
+    let l = h .before .before .before .before .before .loop in
+    let s = h .before .before .before .before .before .before .before .before in
+    let at = rw (h .h2 .given .1) at (h .before .before .read-head .ensures) in
+    let d = rw (c .before .moved2 .ensures) at (c .order .ensures) in (
+      order-executes (s .args .f) _ _ (l .t) (row-stays (s .args .f) _ (λ e. omega (arith, l .inv .2 e))) at _ _ d,
+      omega (arith, at .reads, d .reads),
+      omega (arith, at .reads, at .place),
+    )
+
+same-length-3 : tie.Need-same-length-3 Inv-loop μ-loop
+same-length-3 c =
     let t = c .before .before .before .before in
-    let u = t .before .before .before .before .before in
-    let l = u .before .before .before .loop in
-    let read = u8-is _ _ _ _ (u .u8-from .ensures) (t .before .before .before .header .given .1) in
+    t .order .kept .1 .0 ∙ t .before .before .before .before .before .before .before .before .before .loop .inv .0 .same
+
+returns-3 : tie.Need-returns-3 Inv-loop μ-loop
+returns-3 c =
+    let t = c .before .before .before .before in
+    let l = t .before .before .before .before .before .before .before .before .before .loop in
+    let d = executes t in
     record {
-      grows = omega (arith, l .inv .1, t .order .ensures .0 .grows);
-      gone = going-stop _ _ _ _ _ (l .inv .0) (omega arith) _ _ (t .order .ensures .0) _ _ (c .enum-told2 .given .1);
+      grows = omega (arith, l .inv .1, d .0 .grows);
+      decoded = between-refused _ _ _ _ _ (l .inv .0) (d .2) _ _ (d .0) _ _ (c .enum-told2 .given .1);
     }
 
 loop-less : tie.Need-loop-less Inv-loop μ-loop
 loop-less c =
-    let t = c .before .before .before .before .before in
-    let u = t .before .before .before .before .before in
-    let read = u8-is _ _ _ _ (u .u8-from .ensures) (t .before .before .before .header .given .1) in
-    omega (arith, t .order .ensures .1)
+    let d = executes (c .before .before .before .before .before) in
+    omega (arith, d .1, d .2)
 
 loop-again : tie.Need-loop-again Inv-loop μ-loop
 loop-again c =
     let t = c .before .before .before .before .before in
-    let u = t .before .before .before .before .before in
-    let l = u .before .before .before .loop in
-    let read = u8-is _ _ _ _ (u .u8-from .ensures) (t .before .before .before .header .given .1) in
-    let done = c .before .enum-told3 .given .1 in (
-      going-on _ _ _ _ _ (l .inv .0) (omega arith) _ _ (t .order .ensures .0) done (t .order .ensures .1) (t .order .kept .1 .0),
-      omega (arith, l .inv .1, t .order .ensures .0 .grows),
-      λ e. l .inv .2 (sym (t .order .ensures .0 .mark) ∙ e),
+    let i = t .before .before .before .before .before .before .before .before .before .loop .inv in
+    let d = executes t in (
+      between-on _ _ _ _ _ (i .0) (d .2) _ _ (d .0) (c .before .enum-told3 .given .1) (d .1) (t .order .kept .1 .0),
+      omega (arith, i .1, d .0 .grows),
+      λ e. i .2 (sym (d .0 .mark) ∙ e),
     )
 
-same-length-3 : tie.Need-same-length-3 Inv-loop μ-loop
-same-length-3 c = c .before .before .loop .inv .0 .same
+same-length-4 : tie.Need-same-length-4 Inv-loop μ-loop
+same-length-4 c = c .before .before .loop .inv .0 .same
 
-returns-3 : tie.Need-returns-3 Inv-loop μ-loop
-returns-3 c =
+returns-4 : tie.Need-returns-4 Inv-loop μ-loop
+returns-4 c =
     let l = c .before .before .loop in
-    record { grows = l .inv .1; gone = (l .inv .0, λ h. absurd (omega arith)) }
+    record { grows = l .inv .1; decoded = (l .inv .0, λ h. absurd (omega arith)) }
 
 pub orders-to-spec : {M : Type 1} → statement M
 orders-to-spec =
     tie.close
-    (tie.spec Inv-loop μ-loop loop-holds (λ c κs. tt) (λ c. search needs) (λ c. search needs) same-length returns order-requires
-    (λ c. search needs) same-length-2 returns-2 (λ c. search needs) loop-less loop-again same-length-3 returns-3)
+    (tie.spec Inv-loop μ-loop loop-holds read-head-requires (λ c. search needs) same-length returns (λ c. search needs) (λ c κs. search needs)
+    same-length-2 returns-2 (λ c. search needs) (λ c κs. search needs) order-requires (λ c. search needs) same-length-3 returns-3
+    (λ c. search needs) loop-less loop-again same-length-4 returns-4)

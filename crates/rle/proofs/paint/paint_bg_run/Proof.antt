@@ -2,7 +2,7 @@
 -- all background. Assumes nothing.
 use mathlib.Core.Path.{_≡_}
 use Prim.Native.Nat.{_+_, _-_}
-use Rattle.rle.specs.Contracts.{inkOf}
+use Rattle.rle.specs.Painting.{inkOf}
 use Rattle.rle.proofs.Painting.{painted-zero, painted-as, painted-at, painted-join, painted-one, one-as, part, front, at-most-bytes, insert-none, insert-first, insert-later}
 use native.Mathlib.Omega.{arith}
 use borrow.Author.Needs.{needs}

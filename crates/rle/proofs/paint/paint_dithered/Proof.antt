@@ -5,7 +5,7 @@ use lib.Dec.{eqb}
 use lib.ListN.{length}
 use native.Mathlib.Omega.{arith}
 use Rattle.definition.specs.Decode.{ditherInk}
-use Rattle.rle.specs.Contracts.{Painted}
+use Rattle.rle.specs.Painting.{Painted}
 use Rattle.rle.proofs.Painting.{painted-none, painted-more, painted-at, one-stored, one-place, turn-pixel, dither-solid}
 use Rattle.rle.proofs.paint.paint_dithered.Statement.{statement}
 use Rattle.rle.proofs.paint.paint_dithered.Tie as tie

@@ -6,7 +6,7 @@ use lib.ListN.{length, drop}
 use native.Mathlib.Omega.{arith}
 use Rattle.picture.specs.Pixels.{pixelAt}
 use Rattle.definition.specs.Decode.{solid}
-use Rattle.rle.specs.Contracts.{Painted}
+use Rattle.rle.specs.Painting.{Painted}
 use Rattle.rle.proofs.Painting.{painted-none, painted-zero, painted-more, painted-at, of-depth, one-stored, one-place, image-solid, image-fits}
 use Rattle.rle.proofs.paint.paint_image.Statement.{statement}
 use Rattle.rle.proofs.paint.paint_image.Tie as tie

@@ -4,7 +4,7 @@ use Prim.Native.Nat.{_+_, _-_, _%_, _≤_, _<_}
 use lib.ListN.{length, drop}
 use native.Mathlib.Omega.{arith}
 use Rattle.definition.specs.Plan.{imageInk}
-use Rattle.rle.specs.Contracts.{Painted, inkOf}
+use Rattle.rle.specs.Painting.{Painted, inkOf}
 use Rattle.rle.proofs.Painting.{painted-none, painted-zero, painted-join, painted-as, painted-at, at-most-bytes, part, mask-in-image}
 use Rattle.rle.proofs.paint.paint_masks.Statement.{statement}
 use Rattle.rle.proofs.paint.paint_masks.Tie as tie

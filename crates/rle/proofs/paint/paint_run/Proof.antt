@@ -4,7 +4,7 @@ use Prim.Native.Nat.{_+_, _-_, _≤_}
 use mathlib.Core.Path.{_≡_, refl, _∙_}
 use lib.ListN.{length}
 use native.Mathlib.Omega.{arith}
-use Rattle.rle.specs.Contracts.{Painted, inkOf}
+use Rattle.rle.specs.Painting.{Painted, inkOf}
 use Rattle.rle.proofs.Painting.{painted-none, painted-more, painted-at, at-most-bytes, part}
 use Rattle.rle.proofs.paint.paint_run.Statement.{statement}
 use Rattle.rle.proofs.paint.paint_run.Tie as tie

@@ -1,0 +1,38 @@
+-- `color_image` meets its contract: the image is painted as planned, with the pixels of the stream. Assumes nothing.
+use mathlib.Core.Path.{refl}
+use native.Mathlib.Omega.{arith}
+use Rattle.definition.specs.Orders.{ColorImage}
+use Rattle.definition.specs.Plan.{countsOf, kindInk, leaves, insertIn, foregroundIn}
+use Rattle.rle.proofs.Orders.{within, fits, image-operands, executes-finished, has-place}
+use borrow.Author.Needs.{needs}
+use Rattle.rle.proofs.image.color_image.Statement.{statement}
+use Rattle.rle.proofs.image.color_image.Tie as tie
+
+paint-image-requires : tie.Need-paint-image-requires
+unfolding countsOf
+paint-image-requires c κs =
+    let t = c .before in
+    let s = t .before .before .before .before .before .before in
+    let w = within _ _ (s .pre .0) (s .pre .1 .0) ColorImage _ _ (s .pre .1 .1 .1 .0) (t .plan-color-image .result) (t .plan-color-image .ensures) in
+    (has-place (s .args .dst .now) _ (s .pre .0) (s .pre .1 .0) (w .pixels), omega (arith, image-operands _ (t .plan-color-image .result) _ (s .args .n) _ (t .plan-color-image .ensures)))
+
+finished-requires : tie.Need-finished-requires
+unfolding countsOf
+finished-requires c κs =
+    let t = c .before .before .before .before in
+    let s = t .before .before .before .before .before .before in
+    fits _ _ (s .pre .0) (s .pre .1 .0) ColorImage _ _ (s .pre .1 .1 .1 .0) (t .plan-color-image .result) (t .plan-color-image .ensures) (omega arith)
+
+returns : tie.Need-returns
+unfolding countsOf foregroundIn insertIn kindInk leaves
+returns c =
+    let t = c .before .before .before .before .before in
+    let s = t .before .before .before .before .before .before in
+    executes-finished _ _ _ _ _ (s .pre .0) (s .pre .1 .0) (s .pre .1 .1 .0) ColorImage _ (s .pre .1 .1 .1 .0) (t .plan-color-image .result) (t .plan-color-image .ensures) (record { state = refl; insert = refl }) (c .finished .ensures)
+    (c .before .before .before .paint-image .ensures _)
+
+pub color-image-spec : {M : Type 1} → statement M
+color-image-spec =
+    tie.close
+    (tie.spec (λ c. search needs) (λ c. search needs) (λ c κs. search needs) paint-image-requires finished-requires (λ c. search needs)
+    returns)

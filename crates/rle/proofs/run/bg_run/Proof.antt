@@ -1,0 +1,38 @@
+-- `bg_run` meets its contract: the run is painted as planned. Assumes nothing.
+use mathlib.Core.Path.{refl}
+use native.Mathlib.Omega.{arith}
+use Rattle.definition.specs.Orders.{BgRun}
+use Rattle.definition.specs.Plan.{countsOf, kindInk, leaves, insertIn, foregroundIn}
+use Rattle.rle.proofs.Orders.{within, fits, executes-finished, paintable, row-reach, insert-inks}
+use borrow.Author.Needs.{needs}
+use Rattle.rle.proofs.run.bg_run.Statement.{statement}
+use Rattle.rle.proofs.run.bg_run.Tie as tie
+
+paint-bg-run-requires : tie.Need-paint-bg-run-requires
+unfolding countsOf
+paint-bg-run-requires c κs =
+    let t = c .before .before .before in
+    let s = t .before .before .before .before in
+    let w = within _ _ (s .pre .0) (s .pre .1 .0) BgRun _ 0 (s .pre .1 .1 .0) (t .plan-run .result) (t .plan-run .ensures) in
+    (rw (c .before .fg-ink .ensures) (paintable (s .args .dst .now) _ _ (s .pre .0) (s .pre .1 .0) (w .pixels) (row-reach _ (s .pre .1 .0)) (s .pre .1 .0 .foreground)), rw (c .bg-ink .ensures) (paintable (s .args .dst .now) _ _ (s .pre .0) (s .pre .1 .0) (w .pixels) (row-reach _ (s .pre .1 .0)) (s .pre .0 .black)))
+
+finished-requires : tie.Need-finished-requires
+unfolding countsOf
+finished-requires c κs =
+    let t = c .before .before .before .before .before .before in
+    let s = t .before .before .before .before in
+    fits _ _ (s .pre .0) (s .pre .1 .0) BgRun _ 0 (s .pre .1 .1 .0) (t .plan-run .result) (t .plan-run .ensures) (omega arith)
+
+returns : tie.Need-returns
+unfolding countsOf foregroundIn insertIn kindInk leaves
+returns c = λ src place.
+    let t = c .before .before .before .before .before .before .before in
+    let s = t .before .before .before .before in
+    executes-finished _ src _ _ _ (s .pre .0) (s .pre .1 .0) place BgRun _ (s .pre .1 .1 .0) (t .plan-run .result) (t .plan-run .ensures) (record { state = refl; insert = refl }) (c .finished .ensures)
+    (insert-inks (s .args .f) (s .args .s) (c .before .before .before .before .before .fg-ink .ensures) (c .before .before .before .before .bg-ink .ensures) _ (c .before .before .before .paint-bg-run .ensures))
+
+pub bg-run-spec : {M : Type 1} → statement M
+bg-run-spec =
+    tie.close
+    (tie.spec (λ c. search needs) (λ c κs. search needs) (λ c κs. search needs) (λ c κs. search needs) paint-bg-run-requires
+    finished-requires (λ c. search needs) returns)

@@ -1,0 +1,127 @@
+// Orders that paint runs, and single pixels. Each plans the order, paints the pixels that the plan says, and ends as the plan says.
+ghost use mathlib.Core.Path.{_≡_};
+ghost use mathlib.Core.List.{List};
+ghost use Prim.Native.Nat.{ℕ, _≤_};
+ghost use lib.Dec.{eqb};
+ghost use lib.ListN.{length};
+ghost use Rattle.picture.specs.Pixels.{pick};
+ghost use Rattle.definition.specs.Orders as orders;
+ghost use Rattle.definition.specs.Decode as decode;
+ghost use Rattle.rle.specs.Planning.{pixelKind};
+ghost use Rattle.rle.specs.States.{frameOf, Framed, Invariant};
+ghost use Rattle.rle.specs.Orders.{Executes};
+use crate::paint::paint_bg_run;
+use crate::paint::paint_color_run;
+use crate::paint::paint_dithered_run;
+use crate::paint::paint_fg_run;
+use crate::paint::paint_single;
+use crate::plan::plan_dithered_run;
+use crate::plan::plan_one_pixel;
+use crate::plan::plan_pixel_run;
+use crate::plan::plan_run;
+use crate::state::Frame;
+use crate::state::State;
+use crate::state::Stepped;
+use crate::state::bg_ink;
+use crate::state::fg_ink;
+use crate::state::finished;
+use crate::state::new_foreground;
+
+pub(crate) fn bg_run(dst: &mut [u8], f: Frame, s: State, n: usize) -> Stepped
+    requires { ⌜ Framed (length (now dst)) (frameOf f) ⌝ }
+    requires { ⌜ Invariant (frameOf f) s ⌝ }
+    requires { ⌜ (1 ≤ n) × (n ≤ 65536) ⌝ }
+    ensures { λ r. ⌜ ((src : List ℕ) → s .pos ≤ length src → Executes (frameOf f) src (now (dst .entry)) (now (dst .exit)) s r (decode.orderOf (frameOf f) orders.Kind.BgRun n)) ⌝ }
+{
+    let d = f.depth.bytes;
+    let p = plan_run(d, f.total - s.pixels, n);
+    paint_bg_run(
+        dst,
+        d,
+        f.width,
+        s.pixels,
+        p.pixels,
+        s.insert,
+        fg_ink(s),
+        bg_ink(f, s),
+    );
+    finished(s, p, true)
+}
+
+pub(crate) fn fg_run(dst: &mut [u8], f: Frame, s: State, n: usize) -> Stepped
+    requires { ⌜ Framed (length (now dst)) (frameOf f) ⌝ }
+    requires { ⌜ Invariant (frameOf f) s ⌝ }
+    requires { ⌜ (1 ≤ n) × (n ≤ 65536) ⌝ }
+    ensures { λ r. ⌜ ((src : List ℕ) → s .pos ≤ length src → Executes (frameOf f) src (now (dst .entry)) (now (dst .exit)) s r (decode.orderOf (frameOf f) orders.Kind.FgRun n)) ⌝ }
+{
+    let d = f.depth.bytes;
+    let p = plan_run(d, f.total - s.pixels, n);
+    paint_fg_run(dst, d, f.width, s.pixels, p.pixels, fg_ink(s));
+    finished(s, p, false)
+}
+
+pub(crate) fn set_fg_run(src: &[u8], dst: &mut [u8], f: Frame, s: State, n: usize) -> Stepped
+    requires { ⌜ Framed (length (now dst)) (frameOf f) ⌝ }
+    requires { ⌜ Invariant (frameOf f) s ⌝ }
+    requires { ⌜ s .pos ≤ length (now src) ⌝ }
+    requires { ⌜ (1 ≤ n) × (n ≤ 65536) ⌝ }
+    ensures { λ r. ⌜ Executes (frameOf f) (now (src .entry)) (now (dst .entry)) (now (dst .exit)) s r (decode.orderOf (frameOf f) orders.Kind.SetFgRun n) ⌝ }
+{
+    let d = f.depth.bytes;
+    let p = plan_pixel_run(d, f.total - s.pixels, n, src.len() - s.pos);
+    let t = new_foreground(src, d, s);
+    paint_fg_run(dst, d, f.width, s.pixels, p.pixels, fg_ink(t));
+    finished(t, p, false)
+}
+
+pub(crate) fn color_run(src: &[u8], dst: &mut [u8], f: Frame, s: State, n: usize) -> Stepped
+    requires { ⌜ Framed (length (now dst)) (frameOf f) ⌝ }
+    requires { ⌜ Invariant (frameOf f) s ⌝ }
+    requires { ⌜ s .pos ≤ length (now src) ⌝ }
+    requires { ⌜ (1 ≤ n) × (n ≤ 65536) ⌝ }
+    ensures { λ r. ⌜ Executes (frameOf f) (now (src .entry)) (now (dst .entry)) (now (dst .exit)) s r (decode.orderOf (frameOf f) orders.Kind.ColorRun n) ⌝ }
+{
+    let d = f.depth.bytes;
+    let p = plan_pixel_run(d, f.total - s.pixels, n, src.len() - s.pos);
+    paint_color_run(src, s.pos, dst, d, f.width, s.pixels, p.pixels);
+    finished(s, p, false)
+}
+
+pub(crate) fn dithered_run(src: &[u8], dst: &mut [u8], f: Frame, s: State, n: usize) -> Stepped
+    requires { ⌜ Framed (length (now dst)) (frameOf f) ⌝ }
+    requires { ⌜ Invariant (frameOf f) s ⌝ }
+    requires { ⌜ s .pos ≤ length (now src) ⌝ }
+    requires { ⌜ (1 ≤ n) × (n ≤ 65536) ⌝ }
+    ensures { λ r. ⌜ Executes (frameOf f) (now (src .entry)) (now (dst .entry)) (now (dst .exit)) s r (decode.orderOf (frameOf f) orders.Kind.DitheredRun n) ⌝ }
+{
+    let d = f.depth.bytes;
+    let p = plan_dithered_run(d, f.total - s.pixels, n, src.len() - s.pos);
+    paint_dithered_run(src, s.pos, dst, d, s.pixels, p.pixels);
+    finished(s, p, false)
+}
+
+// The color of a white or black order, by its kind's number.
+pub(crate) fn white_or_black(f: Frame, kind: u8) -> [u8; 3]
+    ensures { λ r. ⌜ r ≡ pick (eqb kind 10) (f .depth .white) (f .depth .black) ⌝ }
+{
+    let d = f.depth;
+    let white = d.white;
+    let black = d.black;
+    if kind == 10 {
+        return white;
+    }
+    black
+}
+
+// One white or black pixel, by the kind's number, or no order. One function for them: as arms of a jump they would be mispredicted
+// half the time.
+pub(crate) fn one_pixel(dst: &mut [u8], f: Frame, s: State, kind: u8) -> Stepped
+    requires { ⌜ Framed (length (now dst)) (frameOf f) ⌝ }
+    requires { ⌜ Invariant (frameOf f) s ⌝ }
+    ensures { λ r. ⌜ ((src : List ℕ) → s .pos ≤ length src → Executes (frameOf f) src (now (dst .entry)) (now (dst .exit)) s r (decode.orderOf (frameOf f) (pixelKind kind) 1)) ⌝ }
+{
+    let d = f.depth.bytes;
+    let p = plan_one_pixel(d, f.total - s.pixels, kind);
+    paint_single(dst, d, s.pixels, p.pixels, white_or_black(f, kind));
+    finished(s, p, false)
+}
