@@ -24,7 +24,7 @@ use Rattle.definition.specs.Plan.{refused, Counts, counts, behind, withOperands
 use Rattle.rle.specs.Planning.{countsIn, endingIn}
 use Rattle.rle.specs.Painting.{HasPlace, Paintable, Painted, ofMode, inkOf, reach}
 use Rattle.rle.specs.States.{Framed, Invariant, frameOf, stateOf, rowAbove, rowMode, rowInk, fgOf, bgOf, withFg, Fits, finishedOf}
-use Rattle.rle.specs.Orders.{Executes, stepIn}
+use Rattle.rle.specs.Orders.{Ready, Executes, stepIn}
 use Rattle.rle.proofs.Pixels.{length-pixelsOf}
 use Rattle.rle.proofs.Painting.{of-depth, painted-as}
 use Rattle.definition.proofs.Masks.{acted, image-masks}
@@ -33,22 +33,20 @@ use Rattle.definition.proofs.Planned.{inkBy, kind-acted, Within, kind-within, o
 -- ---- painting
 
 -- n pixels have a place, and can be painted
-pub has-place : {f : Frame} {s : CodeState} (dst : List ℕ) (n : ℕ) → Framed (length dst) f → Invariant f s → n ≤ f .total - s .pixels
-    → HasPlace (f .bytes) (s .pixels) n dst
-has-place {f} {s = s} dst n frame invariant h =
-    record {
-      low = frame .low;
-      high = frame .high;
-      fits =
-          omega (arith, frame .fits, invariant .within, mul-le-mul-right {m = s .pixels + n} {n = f .total} (f .bytes) (omega (arith, invariant .within)));
-    }
+module _ {f : Frame} {s : CodeState} {m : ℕ} (dst : List ℕ) (n : ℕ) (ready : Ready (length dst) f s m) (room : n ≤ f .total - s .pixels) where
+  pub has-place : HasPlace (f .bytes) (s .pixels) n dst
+  has-place =
+      let within = ready .invariant .within in
+      record {
+        low = ready .frame .low;
+        high = ready .frame .high;
+        fits = omega (arith, ready .frame .fits, within, mul-le-mul-right {m = s .pixels + n} {n = f .total} (f .bytes) (omega (arith, within)));
+      }
 
-pub paintable : {f : Frame} {s : CodeState} (dst : List ℕ) (n : ℕ) (ink : CodeInk) → Framed (length dst) f → Invariant f s
-    → n ≤ f .total - s .pixels → reach (ink .mode) (f .width) ≤ s .pixels → OfDepth (f .bytes) (ink .pixel)
-    → Paintable (f .bytes) (f .width) (s .pixels) n dst ink
-paintable dst n ink frame invariant h r e =
-    let p = has-place dst n frame invariant h in
-    record { low = p .low; high = p .high; wide = frame .wide; fits = p .fits; row = r; pixel = e }
+  pub paintable : (ink : CodeInk) → reach (ink .mode) (f .width) ≤ s .pixels → OfDepth (f .bytes) (ink .pixel)
+      → Paintable (f .bytes) (f .width) (s .pixels) n dst ink
+  paintable ink r e =
+      record { low = has-place .low; high = has-place .high; wide = ready .frame .wide; fits = has-place .fits; row = r; pixel = e }
 
 -- the row above is there where the state's two inks look at it
 reach-most : (later : Mode) (w : ℕ) → reach later w ≤ w
@@ -105,14 +103,18 @@ module _ {D w k n : ℕ} {xs ys : List ℕ} {i j : CodeInk} (f : CodeFrame) (s :
 -- ---- an order planned and painted
 
 -- an order of kind k and run length n with the plan p, in the state s: a bytes are left
-module _ {given : ℕ} (f : Frame) (s : CodeState) (frame : Framed given f) (invariant : Invariant f s) (k : Kind) (n a : ℕ) (one : 1 ≤ n) (p : CodePlan)
+module _ {given : ℕ} {f : Frame} {s : CodeState} {n : ℕ} (ready : Ready given f s n) (k : Kind) (a : ℕ) (p : CodePlan)
     (plans : countsIn p ≡ countsOf (f .bytes) k n a (f .total - s .pixels)) where
   pub within : Within a (f .total - s .pixels) (countsIn p)
-  within = rw plans (kind-within (f .bytes) k n a (f .total - s .pixels) one)
+  within = rw plans (kind-within (f .bytes) k n a (f .total - s .pixels) (ready .some))
 
   pub fits : s .pos + a ≤ 18446744073709551615 → Fits s p
   fits h =
-      record { read = omega (arith, within .read); pixels = omega (arith, within .pixels, frame .few, invariant .within); counted = invariant .counted }
+      record {
+        read = omega (arith, within .read);
+        pixels = omega (arith, within .pixels, ready .frame .few, ready .invariant .within);
+        counted = ready .invariant .counted;
+      }
 
 -- the same with another foreground
 pub fits-with : {s t : CodeState} {x : Pixel} {p : CodePlan} → t ≡ withFg s x → Fits s p → Fits t p
@@ -132,8 +134,8 @@ pub record Leaves (D : ℕ) (k : Kind) (s : CodeState) (xs : List ℕ) (t : Code
   pub state : t ≡ withFg s (foregroundBy D k (s .foreground) xs)
   pub insert : i ≡ leavesInsert k
 
-module _ (f : Frame) (src before after : List ℕ) (s : CodeState) (frame : Framed (length before) f) (invariant : Invariant f s) (place : s .pos ≤ length src)
-    (k : Kind) (n : ℕ) (one : 1 ≤ n) (p : CodePlan) (plans : countsIn p ≡ countsOf (f .bytes) k n (length src - s .pos) (f .total - s .pixels)) where
+module _ {f : Frame} (src before after : List ℕ) {s : CodeState} {n : ℕ} (ready : Ready (length before) f s n) (place : s .pos ≤ length src)
+    (k : Kind) (p : CodePlan) (plans : countsIn p ≡ countsOf (f .bytes) k n (length src - s .pos) (f .total - s .pixels)) where
   abbrev S : State
   S = stateOf f src before s
 
@@ -152,7 +154,8 @@ module _ (f : Frame) (src before after : List ℕ) (s : CodeState) (frame : Fram
       → Executes f src before after s (finishedOf (withFg s foreground) p (leavesInsert k)) (orderOf f k n)
   unfolding acted
   executes-planned painted =
-      let w = within f s frame invariant k n (length src - s .pos) one p plans in
+      let w = within ready k (length src - s .pos) p plans in
+      let i = ready .invariant in
       let e = endingIn (p .ending) in
       let l = sym (drop-drop (p .read) (s .pos) src) in
       let ps = painted .pixels in
@@ -167,10 +170,10 @@ module _ (f : Frame) (src before after : List ℕ) (s : CodeState) (frame : Fram
         mark = refl;
         invariant =
             record {
-              within = omega (arith, invariant .within, w .pixels);
-              row = omega (arith, invariant .row);
-              foreground = kind-of-depth frame (invariant .foreground) (drop (s .pos) src) (leaves k);
-              counted = orders-few e (invariant .counted) (w .some);
+              within = omega (arith, i .within, w .pixels);
+              row = omega (arith, i .row);
+              foreground = kind-of-depth (ready .frame) (i .foreground) (drop (s .pos) src) (leaves k);
+              counted = orders-few e (i .counted) (w .some);
             };
       }
 
@@ -269,15 +272,17 @@ module _ (f : CodeFrame) (src dst : List ℕ) (s : CodeState) (t : Bool) {u : Co
       ∙ image-ink (frameOf f) (stateOf (frameOf f) src dst s) (s .pos) src refl t m)
       p
 
-  pub image-paintable : Framed (length dst) (frameOf f) → Invariant (frameOf f) s → (n : ℕ) → 1 ≤ n → (p : CodePlan)
+  pub image-paintable : {n : ℕ} → Ready (length dst) (frameOf f) s n → (p : CodePlan)
       → countsIn p ≡ countsOf (f .depth .bytes) (pick t SetFgBgImage FgBgImage) n (length src - s .pos) (f .total - s .pixels)
       → Paintable (f .depth .bytes) (f .width) (s .pixels) (p .pixels) dst i
       × (Paintable (f .depth .bytes) (f .width) (s .pixels) (p .pixels) dst j × (p .pixels ≤ (length src - (s .pos + size)) * 8))
-  image-paintable frame invariant n one p plans =
+  image-paintable {n} ready p plans =
       let k = pick t SetFgBgImage FgBgImage in
-      let w = within (frameOf f) s frame invariant k n (length src - s .pos) one p plans in
+      let w = within ready k (length src - s .pos) p plans in
+      let inv = ready .invariant in
       let enough = subst (λ (c : Counts). c .pixels ≤ (length src - s .pos - pick t (f .depth .bytes) 0) * 8) (sym plans)
       (image-enough (f .depth .bytes) n (length src - s .pos) (f .total - s .pixels) t) in (
-        rw (fg, state) (paintable dst (p .pixels) _ frame invariant (w .pixels) (row-reach AboveXor invariant) (kind-of-depth frame (invariant .foreground) (drop (s .pos) src) (leaves k))),
-        (rw (bg, state) (paintable dst (p .pixels) _ frame invariant (w .pixels) (row-reach Above invariant) (frame .black)), rw sized (omega (arith, enough))),
+        rw (fg, state)
+            (paintable dst (p .pixels) ready (w .pixels) _ (row-reach AboveXor inv) (kind-of-depth (ready .frame) (inv .foreground) (drop (s .pos) src) (leaves k))),
+        (rw (bg, state) (paintable dst (p .pixels) ready (w .pixels) _ (row-reach Above inv) (ready .frame .black)), rw sized (omega (arith, enough))),
       )

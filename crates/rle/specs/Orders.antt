@@ -13,7 +13,14 @@ use Rattle.rle.specs.declared.plan.Ending.the-variants.{Complete, Refuse
 use Rattle.rle.specs.declared.state.State.{State as CodeState}
 use Rattle.rle.specs.declared.state.Stepped.{Stepped}
 use Rattle.rle.specs.Planning.{endingIn}
-use Rattle.rle.specs.States.{stateOf, Invariant}
+use Rattle.rle.specs.States.{stateOf, Framed, Invariant}
+
+-- an order of run length n may come in the state s, with a target of `given` bytes
+pub record Ready (given : ℕ) (f : Frame) (s : CodeState) (n : ℕ) : Type 0 where
+  pub frame : Framed given f
+  pub invariant : Invariant f s
+  pub some : 1 ≤ n
+  pub few : n ≤ 65536
 
 -- the definition's step that an ending and a state are
 abbrev pub stepIn : CodeEnding → State → Step

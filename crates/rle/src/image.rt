@@ -9,8 +9,8 @@ ghost use Rattle.definition.specs.Orders as orders;
 ghost use Rattle.definition.specs.Decode as decode;
 ghost use Rattle.definition.specs.Plan as plan;
 ghost use Rattle.rle.specs.Planning.{imageKind, specialKind};
-ghost use Rattle.rle.specs.States.{frameOf, Framed, Invariant, withFg};
-ghost use Rattle.rle.specs.Orders.{Executes};
+ghost use Rattle.rle.specs.States.{frameOf, withFg};
+ghost use Rattle.rle.specs.Orders.{Ready, Executes};
 use crate::paint::paint_image;
 use crate::paint::paint_masks;
 use crate::plan::foreground_size;
@@ -26,10 +26,8 @@ use crate::state::finished;
 use crate::state::new_foreground;
 
 pub(crate) fn color_image(src: &[u8], dst: &mut [u8], f: Frame, s: State, n: usize) -> Stepped
-    requires { ⌜ Framed (length (now dst)) (frameOf f) ⌝ }
-    requires { ⌜ Invariant (frameOf f) s ⌝ }
+    requires { ⌜ Ready (length (now dst)) (frameOf f) s n ⌝ }
     requires { ⌜ s .pos ≤ length (now src) ⌝ }
-    requires { ⌜ (1 ≤ n) × (n ≤ 65536) ⌝ }
     ensures { λ r. ⌜ Executes (frameOf f) (now (src .entry)) (now (dst .entry)) (now (dst .exit)) s r (decode.orderOf (frameOf f) orders.Kind.ColorImage n) ⌝ }
 {
     let d = f.depth.bytes;
@@ -49,8 +47,7 @@ pub(crate) fn special_mask(kind: u8) -> u8
 }
 
 pub(crate) fn special_fgbg(dst: &mut [u8], f: Frame, s: State, kind: u8) -> Stepped
-    requires { ⌜ Framed (length (now dst)) (frameOf f) ⌝ }
-    requires { ⌜ Invariant (frameOf f) s ⌝ }
+    requires { ⌜ Ready (length (now dst)) (frameOf f) s 8 ⌝ }
     ensures { λ r. ⌜ ((src : List ℕ) → s .pos ≤ length src → Executes (frameOf f) src (now (dst .entry)) (now (dst .exit)) s r (decode.orderOf (frameOf f) (specialKind kind) 8)) ⌝ }
 {
     let d = f.depth.bytes;
@@ -90,10 +87,8 @@ pub(crate) fn fgbg_image(
     kind: u8,
     n: usize,
 ) -> Stepped
-    requires { ⌜ Framed (length (now dst)) (frameOf f) ⌝ }
-    requires { ⌜ Invariant (frameOf f) s ⌝ }
+    requires { ⌜ Ready (length (now dst)) (frameOf f) s n ⌝ }
     requires { ⌜ s .pos ≤ length (now src) ⌝ }
-    requires { ⌜ (1 ≤ n) × (n ≤ 65536) ⌝ }
     ensures { λ r. ⌜ Executes (frameOf f) (now (src .entry)) (now (dst .entry)) (now (dst .exit)) s r (decode.orderOf (frameOf f) (imageKind kind) n) ⌝ }
 {
     let d = f.depth.bytes;

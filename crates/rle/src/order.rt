@@ -4,8 +4,8 @@ ghost use Prim.Native.Nat.{_≤_, _<_};
 ghost use lib.ListN.{length};
 ghost use Rattle.definition.specs.Codes as codes;
 ghost use Rattle.definition.specs.Decode as decode;
-ghost use Rattle.rle.specs.States.{frameOf, Framed, Invariant};
-ghost use Rattle.rle.specs.Orders.{Executes};
+ghost use Rattle.rle.specs.States.{frameOf};
+ghost use Rattle.rle.specs.Orders.{Ready, Executes};
 use crate::image::color_image;
 use crate::image::fgbg_image;
 use crate::image::special_fgbg;
@@ -21,10 +21,8 @@ use crate::state::Stepped;
 
 // An order of this kind and run length.
 pub(crate) fn order(src: &[u8], dst: &mut [u8], f: Frame, s: State, kind: u8, n: usize) -> Stepped
-    requires { ⌜ Framed (length (now dst)) (frameOf f) ⌝ }
-    requires { ⌜ Invariant (frameOf f) s ⌝ }
+    requires { ⌜ Ready (length (now dst)) (frameOf f) s n ⌝ }
     requires { ⌜ s .pos ≤ length (now src) ⌝ }
-    requires { ⌜ (1 ≤ n) × (n ≤ 65536) ⌝ }
     requires { ⌜ (9 < kind → n ≡ 1) × (7 < kind → kind ≤ 9 → n ≡ 8) ⌝ }
     ensures { λ r. ⌜ Executes (frameOf f) (now (src .entry)) (now (dst .entry)) (now (dst .exit)) s r (decode.orderOf (frameOf f) (codes.kindOf kind) n) ⌝ }
 {

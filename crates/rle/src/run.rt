@@ -8,8 +8,8 @@ ghost use Rattle.picture.specs.Pixels.{pick};
 ghost use Rattle.definition.specs.Orders as orders;
 ghost use Rattle.definition.specs.Decode as decode;
 ghost use Rattle.rle.specs.Planning.{pixelKind};
-ghost use Rattle.rle.specs.States.{frameOf, Framed, Invariant};
-ghost use Rattle.rle.specs.Orders.{Executes};
+ghost use Rattle.rle.specs.States.{frameOf};
+ghost use Rattle.rle.specs.Orders.{Ready, Executes};
 use crate::paint::paint_bg_run;
 use crate::paint::paint_color_run;
 use crate::paint::paint_dithered_run;
@@ -28,9 +28,7 @@ use crate::state::finished;
 use crate::state::new_foreground;
 
 pub(crate) fn bg_run(dst: &mut [u8], f: Frame, s: State, n: usize) -> Stepped
-    requires { ⌜ Framed (length (now dst)) (frameOf f) ⌝ }
-    requires { ⌜ Invariant (frameOf f) s ⌝ }
-    requires { ⌜ (1 ≤ n) × (n ≤ 65536) ⌝ }
+    requires { ⌜ Ready (length (now dst)) (frameOf f) s n ⌝ }
     ensures { λ r. ⌜ ((src : List ℕ) → s .pos ≤ length src → Executes (frameOf f) src (now (dst .entry)) (now (dst .exit)) s r (decode.orderOf (frameOf f) orders.Kind.BgRun n)) ⌝ }
 {
     let d = f.depth.bytes;
@@ -49,9 +47,7 @@ pub(crate) fn bg_run(dst: &mut [u8], f: Frame, s: State, n: usize) -> Stepped
 }
 
 pub(crate) fn fg_run(dst: &mut [u8], f: Frame, s: State, n: usize) -> Stepped
-    requires { ⌜ Framed (length (now dst)) (frameOf f) ⌝ }
-    requires { ⌜ Invariant (frameOf f) s ⌝ }
-    requires { ⌜ (1 ≤ n) × (n ≤ 65536) ⌝ }
+    requires { ⌜ Ready (length (now dst)) (frameOf f) s n ⌝ }
     ensures { λ r. ⌜ ((src : List ℕ) → s .pos ≤ length src → Executes (frameOf f) src (now (dst .entry)) (now (dst .exit)) s r (decode.orderOf (frameOf f) orders.Kind.FgRun n)) ⌝ }
 {
     let d = f.depth.bytes;
@@ -61,10 +57,8 @@ pub(crate) fn fg_run(dst: &mut [u8], f: Frame, s: State, n: usize) -> Stepped
 }
 
 pub(crate) fn set_fg_run(src: &[u8], dst: &mut [u8], f: Frame, s: State, n: usize) -> Stepped
-    requires { ⌜ Framed (length (now dst)) (frameOf f) ⌝ }
-    requires { ⌜ Invariant (frameOf f) s ⌝ }
+    requires { ⌜ Ready (length (now dst)) (frameOf f) s n ⌝ }
     requires { ⌜ s .pos ≤ length (now src) ⌝ }
-    requires { ⌜ (1 ≤ n) × (n ≤ 65536) ⌝ }
     ensures { λ r. ⌜ Executes (frameOf f) (now (src .entry)) (now (dst .entry)) (now (dst .exit)) s r (decode.orderOf (frameOf f) orders.Kind.SetFgRun n) ⌝ }
 {
     let d = f.depth.bytes;
@@ -75,10 +69,8 @@ pub(crate) fn set_fg_run(src: &[u8], dst: &mut [u8], f: Frame, s: State, n: usiz
 }
 
 pub(crate) fn color_run(src: &[u8], dst: &mut [u8], f: Frame, s: State, n: usize) -> Stepped
-    requires { ⌜ Framed (length (now dst)) (frameOf f) ⌝ }
-    requires { ⌜ Invariant (frameOf f) s ⌝ }
+    requires { ⌜ Ready (length (now dst)) (frameOf f) s n ⌝ }
     requires { ⌜ s .pos ≤ length (now src) ⌝ }
-    requires { ⌜ (1 ≤ n) × (n ≤ 65536) ⌝ }
     ensures { λ r. ⌜ Executes (frameOf f) (now (src .entry)) (now (dst .entry)) (now (dst .exit)) s r (decode.orderOf (frameOf f) orders.Kind.ColorRun n) ⌝ }
 {
     let d = f.depth.bytes;
@@ -88,10 +80,8 @@ pub(crate) fn color_run(src: &[u8], dst: &mut [u8], f: Frame, s: State, n: usize
 }
 
 pub(crate) fn dithered_run(src: &[u8], dst: &mut [u8], f: Frame, s: State, n: usize) -> Stepped
-    requires { ⌜ Framed (length (now dst)) (frameOf f) ⌝ }
-    requires { ⌜ Invariant (frameOf f) s ⌝ }
+    requires { ⌜ Ready (length (now dst)) (frameOf f) s n ⌝ }
     requires { ⌜ s .pos ≤ length (now src) ⌝ }
-    requires { ⌜ (1 ≤ n) × (n ≤ 65536) ⌝ }
     ensures { λ r. ⌜ Executes (frameOf f) (now (src .entry)) (now (dst .entry)) (now (dst .exit)) s r (decode.orderOf (frameOf f) orders.Kind.DitheredRun n) ⌝ }
 {
     let d = f.depth.bytes;
@@ -116,8 +106,7 @@ pub(crate) fn white_or_black(f: Frame, kind: u8) -> [u8; 3]
 // One white or black pixel, by the kind's number, or no order. One function for them: as arms of a jump they would be mispredicted
 // half the time.
 pub(crate) fn one_pixel(dst: &mut [u8], f: Frame, s: State, kind: u8) -> Stepped
-    requires { ⌜ Framed (length (now dst)) (frameOf f) ⌝ }
-    requires { ⌜ Invariant (frameOf f) s ⌝ }
+    requires { ⌜ Ready (length (now dst)) (frameOf f) s 1 ⌝ }
     ensures { λ r. ⌜ ((src : List ℕ) → s .pos ≤ length src → Executes (frameOf f) src (now (dst .entry)) (now (dst .exit)) s r (decode.orderOf (frameOf f) (pixelKind kind) 1)) ⌝ }
 {
     let d = f.depth.bytes;

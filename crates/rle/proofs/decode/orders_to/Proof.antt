@@ -59,7 +59,8 @@ order-requires c κs =
     let i = h .before .before .before .before .before .loop .inv in
     let s = h .before .before .before .before .before .before .before .before in
     let at = rw (h .h2 .given .1) at (h .before .before .read-head .ensures) in
-    (rw (i .0 .same) (s .pre .0), (rw (c .moved2 .ensures) (invariant-at _ (i .0 .invariant)), (rw (c .moved2 .ensures) (at .place), ((at .some, at .few), at .fixed))))
+    rw (c .moved2 .ensures)
+    (record { frame = rw (i .0 .same) (s .pre .0); invariant = invariant-at _ (i .0 .invariant); some = at .some; few = at .few }, (at .place, at .fixed))
 
 -- the order is the definition's step, and reads on
 executes : (c : tie.After-order Inv-loop μ-loop)

@@ -13,22 +13,22 @@ unfolding countsOf
 paint-image-requires c κs =
     let t = c .before in
     let s = t .before .before .before .before .before .before in
-    let w = within _ _ (s .pre .0) (s .pre .1 .0) ColorImage _ _ (s .pre .1 .1 .1 .0) (t .plan-color-image .result) (t .plan-color-image .ensures) in
-    (has-place (s .args .dst .now) _ (s .pre .0) (s .pre .1 .0) (w .pixels), omega (arith, image-operands _ (t .plan-color-image .result) _ (s .args .n) _ (t .plan-color-image .ensures)))
+    let w = within (s .pre .0) ColorImage _ (t .plan-color-image .result) (t .plan-color-image .ensures) in
+    (has-place (s .args .dst .now) _ (s .pre .0) (w .pixels), omega (arith, image-operands _ (t .plan-color-image .result) _ (s .args .n) _ (t .plan-color-image .ensures)))
 
 finished-requires : tie.Need-finished-requires
 unfolding countsOf
 finished-requires c κs =
     let t = c .before .before .before .before in
     let s = t .before .before .before .before .before .before in
-    fits _ _ (s .pre .0) (s .pre .1 .0) ColorImage _ _ (s .pre .1 .1 .1 .0) (t .plan-color-image .result) (t .plan-color-image .ensures) (omega arith)
+    fits (s .pre .0) ColorImage _ (t .plan-color-image .result) (t .plan-color-image .ensures) (omega arith)
 
 returns : tie.Need-returns
 unfolding countsOf foregroundIn insertIn kindInk leaves
 returns c =
     let t = c .before .before .before .before .before in
     let s = t .before .before .before .before .before .before in
-    executes-finished _ _ _ _ _ (s .pre .0) (s .pre .1 .0) (s .pre .1 .1 .0) ColorImage _ (s .pre .1 .1 .1 .0) (t .plan-color-image .result) (t .plan-color-image .ensures) (record { state = refl; insert = refl }) (c .finished .ensures)
+    executes-finished _ _ _ (s .pre .0) (s .pre .1) ColorImage (t .plan-color-image .result) (t .plan-color-image .ensures) (record { state = refl; insert = refl }) (c .finished .ensures)
     (c .before .before .before .paint-image .ensures _)
 
 pub color-image-spec : {M : Type 1} → statement M

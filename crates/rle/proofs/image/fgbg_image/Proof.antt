@@ -12,7 +12,7 @@ use Rattle.rle.proofs.image.fgbg_image.Tie as tie
 add-paint-masks : tie.Need-add-paint-masks
 add-paint-masks c =
     let s = c .before .before .before .before .before .before .before .before .before in
-    let few = by-test (λ (m : ℕ). m ≤ 3) (eqb (s .args .kind) 6) {b = 0} (λ _. s .pre .0 .high) (λ _. omega arith) in
+    let few = by-test (λ (m : ℕ). m ≤ 3) (eqb (s .args .kind) 6) {b = 0} (λ _. s .pre .0 .frame .high) (λ _. omega arith) in
     omega (arith, few, c .before .foreground-size .ensures)
 
 paint-masks-requires : tie.Need-paint-masks-requires
@@ -20,20 +20,20 @@ paint-masks-requires c κs =
     let t = c .before .before .before .before .before .before in
     let s = t .before .before .before .before .before .before in
     image-paintable (s .args .f) (s .args .src .now) (s .args .dst .now) (s .args .s) (eqb (s .args .kind) 6) (c .before .before .before .before .before .image-foreground .ensures) (c .before .fg-ink .ensures) (c .bg-ink .ensures) (c .before .before .before .before .foreground-size .ensures)
-    (s .pre .0) (s .pre .1 .0) (s .args .n) (s .pre .1 .1 .1 .0) (t .plan-fgbg-image .result) (t .plan-fgbg-image .ensures)
+    (s .pre .0) (t .plan-fgbg-image .result) (t .plan-fgbg-image .ensures)
 
 finished-requires : tie.Need-finished-requires
 finished-requires c κs =
     let t = c .before .before .before .before .before .before .before .before .before in
     let s = t .before .before .before .before .before .before in
-    fits-with (c .before .before .before .before .before .before .before .before .image-foreground .ensures) (fits _ (s .args .s) (s .pre .0) (s .pre .1 .0) (imageKind (s .args .kind)) _ _ (s .pre .1 .1 .1 .0) (t .plan-fgbg-image .result) (t .plan-fgbg-image .ensures) (omega arith))
+    fits-with (c .before .before .before .before .before .before .before .before .image-foreground .ensures) (fits (s .pre .0) (imageKind (s .args .kind)) _ (t .plan-fgbg-image .result) (t .plan-fgbg-image .ensures) (omega arith))
 
 returns : tie.Need-returns
 returns c =
     let t = c .before .before .before .before .before .before .before .before .before .before in
     let s = t .before .before .before .before .before .before in
     let state = c .before .before .before .before .before .before .before .before .before .image-foreground .ensures in
-    executes-finished _ _ _ _ _ (s .pre .0) (s .pre .1 .0) (s .pre .1 .1 .0) (imageKind (s .args .kind)) _ (s .pre .1 .1 .1 .0) (t .plan-fgbg-image .result) (t .plan-fgbg-image .ensures) (record { state = state; insert = image-leaves (eqb (s .args .kind) 6) }) (c .finished .ensures)
+    executes-finished _ _ _ (s .pre .0) (s .pre .1) (imageKind (s .args .kind)) (t .plan-fgbg-image .result) (t .plan-fgbg-image .ensures) (record { state = state; insert = image-leaves (eqb (s .args .kind) 6) }) (c .finished .ensures)
     (image-inks (s .args .f) (s .args .src .now) (s .args .dst .now) (s .args .s) (eqb (s .args .kind) 6) state (c .before .before .before .before .before .fg-ink .ensures) (c .before .before .before .before .bg-ink .ensures) (c .before .before .before .before .before .before .before .before .foreground-size .ensures) _ _ (c .before .before .before .paint-masks .ensures))
 
 pub fgbg-image-spec : {M : Type 1} → statement M

@@ -17,9 +17,9 @@ unfolding countsOf
 paint-masks-requires c κs =
     let t = c .before .before .before .before .before in
     let s = t .before .before .before .before in
-    let w = within _ _ (s .pre .0) (s .pre .1) SpecialFgBg1 8 0 (omega arith) (t .plan-run .result) (t .plan-run .ensures) in (
-      rw (c .before .fg-ink .ensures) (paintable (s .args .dst .now) _ _ (s .pre .0) (s .pre .1) (w .pixels) (row-reach _ (s .pre .1)) (s .pre .1 .foreground)),
-      (rw (c .bg-ink .ensures) (paintable (s .args .dst .now) _ _ (s .pre .0) (s .pre .1) (w .pixels) (row-reach _ (s .pre .1)) (s .pre .0 .black)), special-few _ _ (t .plan-run .result) (t .plan-run .ensures)),
+    let w = within (s .pre) SpecialFgBg1 0 (t .plan-run .result) (t .plan-run .ensures) in (
+      rw (c .before .fg-ink .ensures) (paintable (s .args .dst .now) _ (s .pre) (w .pixels) _ (row-reach _ (s .pre .invariant)) (s .pre .invariant .foreground)),
+      (rw (c .bg-ink .ensures) (paintable (s .args .dst .now) _ (s .pre) (w .pixels) _ (row-reach _ (s .pre .invariant)) (s .pre .frame .black)), special-few _ _ (t .plan-run .result) (t .plan-run .ensures)),
     )
 
 finished-requires : tie.Need-finished-requires
@@ -27,7 +27,7 @@ unfolding countsOf
 finished-requires c κs =
     let t = c .before .before .before .before .before .before .before .before in
     let s = t .before .before .before .before in
-    fits _ _ (s .pre .0) (s .pre .1) SpecialFgBg1 8 0 (omega arith) (t .plan-run .result) (t .plan-run .ensures) (omega arith)
+    fits (s .pre) SpecialFgBg1 0 (t .plan-run .result) (t .plan-run .ensures) (omega arith)
 
 returns : tie.Need-returns
 returns c = λ src place.
@@ -36,7 +36,7 @@ returns c = λ src place.
     let f = frameOf (s .args .f) in
     let first = eqb (s .args .kind) 8 in
     let few = special-few _ _ (t .plan-run .result) (t .plan-run .ensures) in
-    executes-finished _ src _ _ _ (s .pre .0) (s .pre .1) place (specialKind (s .args .kind)) 8 (omega arith) (t .plan-run .result) (t .plan-run .ensures ∙ special-counts _ _ _ _ first) (special-leaves _ _ _ first) (c .finished .ensures)
+    executes-finished src _ _ (s .pre) place (specialKind (s .args .kind)) (t .plan-run .result) (t .plan-run .ensures ∙ special-counts _ _ _ _ first) (special-leaves _ _ _ first) (c .finished .ensures)
     (painted-as (λ j h. special-ink f (stateOf f src (s .args .dst .now) (s .args .s)) first j (omega arith))
     (rw (c .before .before .before .before .before .before .before .before .special-mask .ensures) at
     (mask-inks (s .args .f) (s .args .s) (c .before .before .before .before .before .fg-ink .ensures) (c .before .before .before .before .bg-ink .ensures) _ (c .before .before .before .paint-masks .ensures))))

@@ -12,19 +12,19 @@ use Rattle.rle.proofs.order.order.Tie as tie
 returns : tie.Need-returns
 returns c =
     let s = c .before .before .before .before .before .before .before in
-    rw (s .pre .1 .1 .1 .1 .0 (c .before .before .before .before .if1 .taken)) (executes-kind _ (sym (pixel-number (s .args .kind) (c .before .before .before .before .if1 .taken))) (c .before .before .one-pixel .ensures _ (s .pre .1 .1 .0)))
+    rw (s .pre .1 .1 .0 (c .before .before .before .before .if1 .taken)) (executes-kind _ (sym (pixel-number (s .args .kind) (c .before .before .before .before .if1 .taken))) (c .before .before .one-pixel .ensures _ (s .pre .1 .0)))
 
 returns-2 : tie.Need-returns-2
 unfolding kindOf kindRow rows row
 returns-2 c =
     let s = c .before .before .before .before .before .before .before .before in
-    executes-kind _ (ap (λ (k : ℕ). kindOf k) (sym (c .before .before .before .before .match .keys1))) (c .before .before .bg-run .ensures _ (s .pre .1 .1 .0))
+    executes-kind _ (ap (λ (k : ℕ). kindOf k) (sym (c .before .before .before .before .match .keys1))) (c .before .before .bg-run .ensures _ (s .pre .1 .0))
 
 returns-3 : tie.Need-returns-3
 unfolding kindOf kindRow rows row
 returns-3 c =
     let s = c .before .before .before .before .before .before .before .before in
-    executes-kind _ (ap (λ (k : ℕ). kindOf k) (sym (c .before .before .before .before .match .keys2))) (c .before .before .fg-run .ensures _ (s .pre .1 .1 .0))
+    executes-kind _ (ap (λ (k : ℕ). kindOf k) (sym (c .before .before .before .before .match .keys2))) (c .before .before .fg-run .ensures _ (s .pre .1 .0))
 
 returns-4 : tie.Need-returns-4
 returns-4 c =
@@ -53,7 +53,7 @@ returns-9 c =
     let r = c .before .before .before .before .match .rest in
     let few = c .before .before .before .before .before .if1 .left in
     let k = special-number (s .args .kind) few (r .0 .0 .0 .0 .0 .0 .1) (r .0 .0 .0 .0 .0 .1) (r .0 .0 .0 .0 .1) (r .0 .0 .0 .1) (r .0 .0 .1) (r .0 .1) (r .1) in
-    rw (s .pre .1 .1 .1 .1 .1 (k .0) few) (executes-kind _ (sym (k .1)) (c .before .before .special-fgbg .ensures _ (s .pre .1 .1 .0)))
+    rw (s .pre .1 .1 .1 (k .0) few) (executes-kind _ (sym (k .1)) (c .before .before .special-fgbg .ensures _ (s .pre .1 .0)))
 
 pub order-spec : {M : Type 1} → statement M
 order-spec =

@@ -13,22 +13,22 @@ unfolding countsOf
 paint-bg-run-requires c κs =
     let t = c .before .before .before in
     let s = t .before .before .before .before in
-    let w = within _ _ (s .pre .0) (s .pre .1 .0) BgRun _ 0 (s .pre .1 .1 .0) (t .plan-run .result) (t .plan-run .ensures) in
-    (rw (c .before .fg-ink .ensures) (paintable (s .args .dst .now) _ _ (s .pre .0) (s .pre .1 .0) (w .pixels) (row-reach _ (s .pre .1 .0)) (s .pre .1 .0 .foreground)), rw (c .bg-ink .ensures) (paintable (s .args .dst .now) _ _ (s .pre .0) (s .pre .1 .0) (w .pixels) (row-reach _ (s .pre .1 .0)) (s .pre .0 .black)))
+    let w = within (s .pre) BgRun 0 (t .plan-run .result) (t .plan-run .ensures) in
+    (rw (c .before .fg-ink .ensures) (paintable (s .args .dst .now) _ (s .pre) (w .pixels) _ (row-reach _ (s .pre .invariant)) (s .pre .invariant .foreground)), rw (c .bg-ink .ensures) (paintable (s .args .dst .now) _ (s .pre) (w .pixels) _ (row-reach _ (s .pre .invariant)) (s .pre .frame .black)))
 
 finished-requires : tie.Need-finished-requires
 unfolding countsOf
 finished-requires c κs =
     let t = c .before .before .before .before .before .before in
     let s = t .before .before .before .before in
-    fits _ _ (s .pre .0) (s .pre .1 .0) BgRun _ 0 (s .pre .1 .1 .0) (t .plan-run .result) (t .plan-run .ensures) (omega arith)
+    fits (s .pre) BgRun 0 (t .plan-run .result) (t .plan-run .ensures) (omega arith)
 
 returns : tie.Need-returns
 unfolding countsOf foregroundIn insertIn kindInk leaves
 returns c = λ src place.
     let t = c .before .before .before .before .before .before .before in
     let s = t .before .before .before .before in
-    executes-finished _ src _ _ _ (s .pre .0) (s .pre .1 .0) place BgRun _ (s .pre .1 .1 .0) (t .plan-run .result) (t .plan-run .ensures) (record { state = refl; insert = refl }) (c .finished .ensures)
+    executes-finished src _ _ (s .pre) place BgRun (t .plan-run .result) (t .plan-run .ensures) (record { state = refl; insert = refl }) (c .finished .ensures)
     (insert-inks (s .args .f) (s .args .s) (c .before .before .before .before .before .fg-ink .ensures) (c .before .before .before .before .bg-ink .ensures) _ (c .before .before .before .paint-bg-run .ensures))
 
 pub bg-run-spec : {M : Type 1} → statement M

@@ -13,22 +13,22 @@ unfolding countsOf
 paint-color-run-requires c κs =
     let t = c .before in
     let s = t .before .before .before .before .before .before in
-    let w = within _ _ (s .pre .0) (s .pre .1 .0) ColorRun _ _ (s .pre .1 .1 .1 .0) (t .plan-pixel-run .result) (t .plan-pixel-run .ensures) in
-    (has-place (s .args .dst .now) _ (s .pre .0) (s .pre .1 .0) (w .pixels), (λ h. omega (arith, operands-read _ (t .plan-pixel-run .result) _ _ (t .plan-pixel-run .ensures) h), s .pre .0 .wide))
+    let w = within (s .pre .0) ColorRun _ (t .plan-pixel-run .result) (t .plan-pixel-run .ensures) in
+    (has-place (s .args .dst .now) _ (s .pre .0) (w .pixels), (λ h. omega (arith, operands-read _ (t .plan-pixel-run .result) _ _ (t .plan-pixel-run .ensures) h), s .pre .0 .frame .wide))
 
 finished-requires : tie.Need-finished-requires
 unfolding countsOf
 finished-requires c κs =
     let t = c .before .before .before .before in
     let s = t .before .before .before .before .before .before in
-    fits _ _ (s .pre .0) (s .pre .1 .0) ColorRun _ _ (s .pre .1 .1 .1 .0) (t .plan-pixel-run .result) (t .plan-pixel-run .ensures) (omega arith)
+    fits (s .pre .0) ColorRun _ (t .plan-pixel-run .result) (t .plan-pixel-run .ensures) (omega arith)
 
 returns : tie.Need-returns
 unfolding countsOf foregroundIn insertIn kindInk leaves
 returns c =
     let t = c .before .before .before .before .before in
     let s = t .before .before .before .before .before .before in
-    executes-finished _ _ _ _ _ (s .pre .0) (s .pre .1 .0) (s .pre .1 .1 .0) ColorRun _ (s .pre .1 .1 .1 .0) (t .plan-pixel-run .result) (t .plan-pixel-run .ensures) (record { state = refl; insert = refl }) (c .finished .ensures)
+    executes-finished _ _ _ (s .pre .0) (s .pre .1) ColorRun (t .plan-pixel-run .result) (t .plan-pixel-run .ensures) (record { state = refl; insert = refl }) (c .finished .ensures)
     (c .before .before .before .paint-color-run .ensures)
 
 pub color-run-spec : {M : Type 1} → statement M

@@ -13,22 +13,22 @@ unfolding countsOf
 paint-dithered-run-requires c κs =
     let t = c .before in
     let s = t .before .before .before .before .before .before in
-    let w = within _ _ (s .pre .0) (s .pre .1 .0) DitheredRun _ _ (s .pre .1 .1 .1 .0) (t .plan-dithered-run .result) (t .plan-dithered-run .ensures) in
-    (has-place (s .args .dst .now) _ (s .pre .0) (s .pre .1 .0) (w .pixels), λ h. omega (arith, operands-read _ (t .plan-dithered-run .result) _ _ (t .plan-dithered-run .ensures) h))
+    let w = within (s .pre .0) DitheredRun _ (t .plan-dithered-run .result) (t .plan-dithered-run .ensures) in
+    (has-place (s .args .dst .now) _ (s .pre .0) (w .pixels), λ h. omega (arith, operands-read _ (t .plan-dithered-run .result) _ _ (t .plan-dithered-run .ensures) h))
 
 finished-requires : tie.Need-finished-requires
 unfolding countsOf
 finished-requires c κs =
     let t = c .before .before .before .before in
     let s = t .before .before .before .before .before .before in
-    fits _ _ (s .pre .0) (s .pre .1 .0) DitheredRun _ _ (s .pre .1 .1 .1 .0) (t .plan-dithered-run .result) (t .plan-dithered-run .ensures) (omega arith)
+    fits (s .pre .0) DitheredRun _ (t .plan-dithered-run .result) (t .plan-dithered-run .ensures) (omega arith)
 
 returns : tie.Need-returns
 unfolding countsOf foregroundIn insertIn kindInk leaves
 returns c =
     let t = c .before .before .before .before .before in
     let s = t .before .before .before .before .before .before in
-    executes-finished _ _ _ _ _ (s .pre .0) (s .pre .1 .0) (s .pre .1 .1 .0) DitheredRun _ (s .pre .1 .1 .1 .0) (t .plan-dithered-run .result) (t .plan-dithered-run .ensures) (record { state = refl; insert = refl }) (c .finished .ensures)
+    executes-finished _ _ _ (s .pre .0) (s .pre .1) DitheredRun (t .plan-dithered-run .result) (t .plan-dithered-run .ensures) (record { state = refl; insert = refl }) (c .finished .ensures)
     (c .before .before .before .paint-dithered-run .ensures _)
 
 pub dithered-run-spec : {M : Type 1} → statement M

@@ -14,22 +14,22 @@ unfolding countsOf
 paint-fg-run-requires c κs =
     let t = c .before .before in
     let s = t .before .before .before .before in
-    let w = within _ _ (s .pre .0) (s .pre .1 .0) FgRun _ 0 (s .pre .1 .1 .0) (t .plan-run .result) (t .plan-run .ensures) in
-    rw (c .fg-ink .ensures) (paintable (s .args .dst .now) _ _ (s .pre .0) (s .pre .1 .0) (w .pixels) (row-reach _ (s .pre .1 .0)) (s .pre .1 .0 .foreground))
+    let w = within (s .pre) FgRun 0 (t .plan-run .result) (t .plan-run .ensures) in
+    rw (c .fg-ink .ensures) (paintable (s .args .dst .now) _ (s .pre) (w .pixels) _ (row-reach _ (s .pre .invariant)) (s .pre .invariant .foreground))
 
 finished-requires : tie.Need-finished-requires
 unfolding countsOf
 finished-requires c κs =
     let t = c .before .before .before .before .before in
     let s = t .before .before .before .before in
-    fits _ _ (s .pre .0) (s .pre .1 .0) FgRun _ 0 (s .pre .1 .1 .0) (t .plan-run .result) (t .plan-run .ensures) (omega arith)
+    fits (s .pre) FgRun 0 (t .plan-run .result) (t .plan-run .ensures) (omega arith)
 
 returns : tie.Need-returns
 unfolding countsOf foregroundIn insertIn kindInk leaves
 returns c = λ src place.
     let t = c .before .before .before .before .before .before in
     let s = t .before .before .before .before in
-    executes-finished _ src _ _ _ (s .pre .0) (s .pre .1 .0) place FgRun _ (s .pre .1 .1 .0) (t .plan-run .result) (t .plan-run .ensures) (record { state = refl; insert = refl }) (c .finished .ensures)
+    executes-finished src _ _ (s .pre) place FgRun (t .plan-run .result) (t .plan-run .ensures) (record { state = refl; insert = refl }) (c .finished .ensures)
     (painted-as (λ _ _. fg-is (s .args .s) refl (c .before .before .before .before .fg-ink .ensures)) (c .before .before .before .paint-fg-run .ensures))
 
 pub fg-run-spec : {M : Type 1} → statement M

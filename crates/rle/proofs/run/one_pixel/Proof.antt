@@ -17,16 +17,16 @@ paint-single-requires c κs =
     let t = c .before .before in
     let s = t .before .before .before .before in
     let white = eqb (s .args .kind) 10 in
-    let w = within _ _ (s .pre .0) (s .pre .1) (pixelKind (s .args .kind)) 1 0 (omega arith) (t .plan-one-pixel .result) (t .plan-one-pixel .ensures ∙ pixel-plans _ 0 _ (ltb 11 (s .args .kind)) (eqb (s .args .kind) 10)) in (
-      has-place (s .args .dst .now) _ (s .pre .0) (s .pre .1) (w .pixels),
-      (pixel-few (frameOf (s .args .f)) _ (ltb 11 (s .args .kind)) (t .plan-one-pixel .result) (t .plan-one-pixel .ensures), rw (c .white-or-black .ensures) (turn-pixel _ _ _ white (s .pre .0 .white) (s .pre .0 .black))),
+    let w = within (s .pre) (pixelKind (s .args .kind)) 0 (t .plan-one-pixel .result) (t .plan-one-pixel .ensures ∙ pixel-plans _ 0 _ (ltb 11 (s .args .kind)) (eqb (s .args .kind) 10)) in (
+      has-place (s .args .dst .now) _ (s .pre) (w .pixels),
+      (pixel-few (frameOf (s .args .f)) _ (ltb 11 (s .args .kind)) (t .plan-one-pixel .result) (t .plan-one-pixel .ensures), rw (c .white-or-black .ensures) (turn-pixel _ _ _ white (s .pre .frame .white) (s .pre .frame .black))),
     )
 
 finished-requires : tie.Need-finished-requires
 finished-requires c κs =
     let t = c .before .before .before .before .before in
     let s = t .before .before .before .before in
-    fits _ _ (s .pre .0) (s .pre .1) (pixelKind (s .args .kind)) 1 0 (omega arith) (t .plan-one-pixel .result) (t .plan-one-pixel .ensures ∙ pixel-plans _ 0 _ (ltb 11 (s .args .kind)) (eqb (s .args .kind) 10)) (omega arith)
+    fits (s .pre) (pixelKind (s .args .kind)) 0 (t .plan-one-pixel .result) (t .plan-one-pixel .ensures ∙ pixel-plans _ 0 _ (ltb 11 (s .args .kind)) (eqb (s .args .kind) 10)) (omega arith)
 
 returns : tie.Need-returns
 returns c = λ src place.
@@ -35,7 +35,7 @@ returns c = λ src place.
     let none = ltb 11 (s .args .kind) in
     let white = eqb (s .args .kind) 10 in
     let f = frameOf (s .args .f) in
-    executes-finished _ src _ _ _ (s .pre .0) (s .pre .1) place (pixelKind (s .args .kind)) 1 (omega arith) (t .plan-one-pixel .result) (t .plan-one-pixel .ensures ∙ pixel-plans _ _ _ none white) (pixel-leaves _ _ _ none white) (c .finished .ensures)
+    executes-finished src _ _ (s .pre) place (pixelKind (s .args .kind)) (t .plan-one-pixel .result) (t .plan-one-pixel .ensures ∙ pixel-plans _ _ _ none white) (pixel-leaves _ _ _ none white) (c .finished .ensures)
     (painted-as (λ j h. ap solid (c .before .before .before .before .white-or-black .ensures) ∙ pixel-ink f _ none (t .plan-one-pixel .result) (t .plan-one-pixel .ensures) (stateOf f src (s .args .dst .now) (s .args .s)) white j h) (c .before .before .before .paint-single .ensures _))
 
 pub one-pixel-spec : {M : Type 1} → statement M

@@ -14,16 +14,16 @@ unfolding countsOf
 paint-fg-run-requires c κs =
     let t = c .before .before .before in
     let s = t .before .before .before .before .before .before in
-    let w = within _ _ (s .pre .0) (s .pre .1 .0) SetFgRun _ _ (s .pre .1 .1 .1 .0) (t .plan-pixel-run .result) (t .plan-pixel-run .ensures) in
+    let w = within (s .pre .0) SetFgRun _ (t .plan-pixel-run .result) (t .plan-pixel-run .ensures) in
     rw (c .fg-ink .ensures, c .before .before .new-foreground .ensures)
-    (paintable (s .args .dst .now) _ _ (s .pre .0) (s .pre .1 .0) (w .pixels) (row-reach _ (s .pre .1 .0)) (new-of-depth (s .pre .0) (s .pre .1 .0 .foreground) _))
+    (paintable (s .args .dst .now) _ (s .pre .0) (w .pixels) _ (row-reach _ (s .pre .0 .invariant)) (new-of-depth (s .pre .0 .frame) (s .pre .0 .invariant .foreground) _))
 
 finished-requires : tie.Need-finished-requires
 unfolding countsOf
 finished-requires c κs =
     let t = c .before .before .before .before .before .before in
     let s = t .before .before .before .before .before .before in
-    fits-with (c .before .before .before .before .before .new-foreground .ensures) (fits _ (s .args .s) (s .pre .0) (s .pre .1 .0) SetFgRun _ _ (s .pre .1 .1 .1 .0) (t .plan-pixel-run .result) (t .plan-pixel-run .ensures) (omega arith))
+    fits-with (c .before .before .before .before .before .new-foreground .ensures) (fits (s .pre .0) SetFgRun _ (t .plan-pixel-run .result) (t .plan-pixel-run .ensures) (omega arith))
 
 returns : tie.Need-returns
 unfolding countsOf foregroundIn insertIn kindInk leaves
@@ -31,7 +31,7 @@ returns c =
     let t = c .before .before .before .before .before .before .before in
     let s = t .before .before .before .before .before .before in
     let new = c .before .before .before .before .before .before .new-foreground .ensures in
-    executes-finished _ _ _ _ _ (s .pre .0) (s .pre .1 .0) (s .pre .1 .1 .0) SetFgRun _ (s .pre .1 .1 .1 .0) (t .plan-pixel-run .result) (t .plan-pixel-run .ensures) (record { state = new; insert = refl }) (c .finished .ensures)
+    executes-finished _ _ _ (s .pre .0) (s .pre .1) SetFgRun (t .plan-pixel-run .result) (t .plan-pixel-run .ensures) (record { state = new; insert = refl }) (c .finished .ensures)
     (painted-as (λ _ _. fg-is (s .args .s) new (c .before .before .before .before .fg-ink .ensures)) (c .before .before .before .paint-fg-run .ensures))
 
 pub set-fg-run-spec : {M : Type 1} → statement M
