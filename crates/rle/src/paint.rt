@@ -1,4 +1,7 @@
 // Painting pixels into a target: pixel k stands in its bytes from k * d on, and the pixel above it w pixels before.
+//
+// A painter of an order's pixels returns at once where there are none. A plan that refuses its order asks for none, so the compiler
+// takes a refused order past the painting.
 ghost use mathlib.Core.Path.{_≡_};
 ghost use Prim.Native.Nat.{ℕ, _+_, _-_, _*_, _%_, _≤_, _<_};
 ghost use lib.Dec.{eqb};
@@ -64,7 +67,7 @@ pub(crate) fn paint_run(dst: &mut [u8], d: usize, w: usize, k: usize, n: usize, 
     }
 }
 
-// The same, without a call where there is nothing to paint: a plan that refuses its order asks for no pixel, and is seen through here.
+// A foreground run's n pixels.
 pub(crate) fn paint_fg_run(dst: &mut [u8], d: usize, w: usize, k: usize, n: usize, ink: Ink)
     requires { ⌜ Paintable d w k n (now dst) ink ⌝ }
     ensures { λ _. ⌜ Painted d w (λ _. inkOf ink) k n (now (dst .entry)) (now (dst .exit)) ⌝ }
