@@ -21,7 +21,7 @@ use Rattle.definition.proofs.Runs.{continues-start, continues-end, continues-re
 use Rattle.rle.specs.Stored.{pixelsOf}
 use Rattle.rle.specs.Heads.{HeadAt, RefusedAt}
 use Rattle.rle.specs.Planning.{endingIn}
-use Rattle.rle.specs.States.{Framed, Invariant, frameOf, stateOf, firstRowEnded, atPos, startOf}
+use Rattle.rle.specs.States.{Framed, Invariant, frameOf, stateOf, firstRowEnded, atPos, refusedIn, startOf}
 use Rattle.rle.specs.Orders.{Executes, BetweenOrders, Decodes, decodedTo, DecodesTo}
 use Rattle.rle.proofs.Painting.{rest-later}
 use Rattle.rle.proofs.FirstRow.{mark-is, invariant-marked, step-marked}
@@ -60,7 +60,7 @@ module _ (f : CodeFrame) (src dst : List ℕ) (s : CodeState) (begun : firstRowE
 
   -- its head was refused
   pub order-refused : {x : RleError} {next : ℕ} → RefusedAt src (s .pos) x next → Invariant (frameOf f) s
-      → Executes (frameOf f) src dst dst s (record { ending = Refused x; state = atPos s next }) (step (frameOf f))
+      → Executes (frameOf f) src dst dst s (refusedIn x (atPos s next)) (step (frameOf f))
   unfolding orderFrom withLeft endWith
   order-refused {next = next} at invariant =
       record {

@@ -23,7 +23,7 @@ use Rattle.definition.proofs.Planned.{step-planned, progress-planned, Within, k
 use Rattle.definition.proofs.Runs.{continues-start, continues-end, continues-refused, continues-on}
 use Rattle.rle.specs.Heads.{HeadAt, RefusedAt}
 use Rattle.rle.specs.Planning.{countsIn, endingIn}
-use Rattle.rle.specs.States.{frameOf, atPos, Fits, finishedOf, firstRowEnded, startOf}
+use Rattle.rle.specs.States.{frameOf, atPos, completedIn, refusedIn, Fits, finishedOf, firstRowEnded, startOf}
 use Rattle.rle.specs.Walks.{progressIn, WalksStream}
 use Rattle.rle.proofs.Numbers.{insert-number}
 
@@ -63,7 +63,7 @@ module _ (f : CodeFrame) (src : List ℕ) (s : CodeState) (within : s .pixels �
 
   -- its head was refused
   pub head-refused : {e : RleError} {next : ℕ} → RefusedAt src (s .pos) e next
-      → WalksOrder (frameOf f) src s (record { ending = Refused e; state = atPos (firstRowEnded f s) next })
+      → WalksOrder (frameOf f) src s (refusedIn e (atPos (firstRowEnded f s) next))
   unfolding planOf planFrom planBy pastFirstRow insertAfter ordersAfter
   head-refused at =
       record {
@@ -98,7 +98,7 @@ module _ {f : Frame} {src : List ℕ} {s : CodeState} (walked : WalkedTo f src s
   here : walked .state .left ≡ drop (s .pos) src
   here = left-is src s (walked .state) (walked .reached)
 
-  pub walked-end : length src ≤ s .pos → WalksStream f src (record { ending = Complete; state = s })
+  pub walked-end : length src ≤ s .pos → WalksStream f src (completedIn s)
   unfolding thenRun endWith
   walked-end h =
       record {

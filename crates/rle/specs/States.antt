@@ -12,6 +12,8 @@ use Rattle.definition.specs.Plan.{insertAfter, ordersAfter}
 use Rattle.rle.specs.declared.paint.Mode.{Mode}
 use Rattle.rle.specs.declared.paint.Mode.the-variants.{Solid, Above, AboveXor}
 use Rattle.rle.specs.declared.paint.Ink.{Ink as CodeInk}
+use Rattle.picture.specs.declared.outcome.RleError.{RleError}
+use Rattle.rle.specs.declared.plan.Ending.the-variants.{Complete, Refused}
 use Rattle.rle.specs.declared.plan.Plan.{Plan as CodePlan}
 use Rattle.rle.specs.declared.state.Frame.{Frame as CodeFrame}
 use Rattle.rle.specs.declared.state.State.{State as CodeState}
@@ -100,6 +102,12 @@ atPos s pos =
       «first_row» = s .«first_row»;
       orders = s .orders;
     }
+
+abbrev pub completedIn : CodeState → Stepped
+completedIn s = record { ending = Complete; state = s }
+
+abbrev pub refusedIn : RleError → CodeState → Stepped
+refusedIn e s = record { ending = Refused e; state = s }
 
 -- no number of the state behind a plan is too large
 pub record Fits (s : CodeState) (p : CodePlan) : Type 0 where

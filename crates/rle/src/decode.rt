@@ -15,8 +15,10 @@ use crate::plan::Ending;
 use crate::state::Frame;
 use crate::state::State;
 use crate::state::Stepped;
+use crate::state::completed;
 use crate::state::end_first_row;
 use crate::state::moved;
+use crate::state::refused;
 use crate::state::start;
 
 // Orders from the state s on until `limit` pixels are painted, or to the stream's end or its refusal. In the first row the limit is
@@ -40,18 +42,8 @@ pub(crate) fn orders_to(
     while t.pixels < limit {
         let h = read_head(src, kinds, lengths, t.pos);
         match h {
-            Head::End => {
-                return Stepped {
-                    ending: Ending::Complete,
-                    state: t,
-                };
-            }
-            Head::Refused(e, next) => {
-                return Stepped {
-                    ending: Ending::Refused(e),
-                    state: moved(t, next),
-                };
-            }
+            Head::End => return completed(t),
+            Head::Refused(e, next) => return refused(e, moved(t, next)),
             Head::Order(kind, n, next) => {
                 let r = order(src, dst, f, moved(t, next), kind, n);
                 let e = r.ending;
@@ -62,10 +54,7 @@ pub(crate) fn orders_to(
             }
         }
     }
-    Stepped {
-        ending: Ending::Complete,
-        state: t,
-    }
+    completed(t)
 }
 
 // All orders of the stream.

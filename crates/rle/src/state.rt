@@ -3,7 +3,7 @@ ghost use mathlib.Core.Path.{_≡_};
 ghost use Prim.Native.Nat.{_≤_};
 ghost use lib.ListN.{length, drop};
 ghost use Rattle.definition.specs.Plan as plan;
-ghost use Rattle.rle.specs.States.{rowInk, fgOf, bgOf, withFg, startOf, atPos, firstRowEnded, Fits, finishedOf};
+ghost use Rattle.rle.specs.States.{rowInk, fgOf, bgOf, withFg, startOf, atPos, completedIn, refusedIn, firstRowEnded, Fits, finishedOf};
 use crate::paint::Ink;
 use crate::paint::Mode;
 use crate::paint::solid;
@@ -11,6 +11,7 @@ use crate::pixel::read_pixel;
 use crate::plan::Ending;
 use crate::plan::Plan;
 use picture::Depth;
+use picture::RleError;
 
 // What a picture's orders go by: its depth, its width, and its pixels.
 pub(crate) struct Frame {
@@ -59,6 +60,26 @@ pub(crate) fn moved(s: State, pos: usize) -> State
     let mut t = s;
     t.pos = pos;
     t
+}
+
+// The stream ends in this state.
+pub(crate) fn completed(s: State) -> Stepped
+    ensures { λ r. ⌜ r ≡ completedIn s ⌝ }
+{
+    Stepped {
+        ending: Ending::Complete,
+        state: s,
+    }
+}
+
+// The stream is refused in this state.
+pub(crate) fn refused(e: RleError, s: State) -> Stepped
+    ensures { λ r. ⌜ r ≡ refusedIn e s ⌝ }
+{
+    Stepped {
+        ending: Ending::Refused(e),
+        state: s,
+    }
 }
 
 // The first row ends for good at an order's start with at least one row painted, and a pending insert is dropped.

@@ -21,9 +21,11 @@ use crate::plan::plan_pixel_run;
 use crate::plan::plan_run;
 use crate::state::Frame;
 use crate::state::Stepped;
+use crate::state::completed;
 use crate::state::end_first_row;
 use crate::state::finished;
 use crate::state::moved;
+use crate::state::refused;
 use crate::state::start;
 
 // The plan of an order of this kind and run length.
@@ -56,18 +58,8 @@ pub(crate) fn walk_stream(src: &[u8], f: Frame) -> Stepped
         let h = read_head(src, &kinds, &lengths, s.pos);
         let t = end_first_row(f, s);
         match h {
-            Head::End => {
-                return Stepped {
-                    ending: Ending::Complete,
-                    state: s,
-                };
-            }
-            Head::Refused(e, next) => {
-                return Stepped {
-                    ending: Ending::Refused(e),
-                    state: moved(t, next),
-                };
-            }
+            Head::End => return completed(s),
+            Head::Refused(e, next) => return refused(e, moved(t, next)),
             Head::Order(kind, n, next) => {
                 let p = plan_by_kind(f.depth.bytes, f.total - s.pixels, kind, n, src.len() - next);
                 let r = finished(moved(t, next), p, kind == 0);

@@ -29,28 +29,32 @@ read-head-requires : tie.Need-read-head-requires Inv-loop μ-loop
 read-head-requires c κs = c .before .before .before .before .before .pre .1 .0
 
 same-length : tie.Need-same-length Inv-loop μ-loop
-same-length c = c .before .before .before .before .before .loop .inv .0 .same
+same-length c = c .before .before .before .before .before .before .loop .inv .0 .same
 
 returns : tie.Need-returns Inv-loop μ-loop
 returns c =
-    let i = c .before .before .before .before .before .loop .inv in
-    record { grows = i .1; decoded = (i .0, λ _. rw (c .enum-told .given .1) at (c .before .before .read-head .ensures)) }
+    let t = c .before in
+    let i = t .before .before .before .before .before .loop .inv in
+    rw (c .completed .ensures)
+    (record { grows = i .1; decoded = (i .0, λ _. rw (t .enum-told .given .1) at (t .before .before .read-head .ensures)) })
 
 same-length-2 : tie.Need-same-length-2 Inv-loop μ-loop
-same-length-2 c = c .before .before .before .before .before .before .before .loop .inv .0 .same
+same-length-2 c = c .before .before .before .before .before .before .before .before .loop .inv .0 .same
 
 returns-2 : tie.Need-returns-2 Inv-loop μ-loop
 returns-2 c =
-    let r = c .before .before .before .before in
+    let m = c .before in
+    let r = m .before .before .before .before in
     let l = r .before .before .before .loop in
     let s = r .before .before .before .before .before .before in
-    let at = rw (c .before .before .h .given .1) at (r .read-head .ensures) in
-    rw (c .moved .ensures)
+    let at = rw (m .before .before .h .given .1) at (r .read-head .ensures) in
+    rw (c .refused .ensures, m .moved .ensures)
     (record {
       grows = l .inv .1;
       decoded =
           between-refused _ _ _ _ _ (l .inv .0) (omega (arith, at .reads, at .place)) _ _
-          (order-refused (s .args .f) _ _ (l .t) (row-stays (s .args .f) _ (λ e. omega (arith, l .inv .2 e))) at (l .inv .0 .invariant)) (s .args .limit) _ refl;
+          (order-refused (s .args .f) _ _ (l .t) (row-stays (s .args .f) _ (λ e. omega (arith, l .inv .2 e))) at (l .inv .0 .invariant)) (s .args .limit) _
+          refl;
     })
 
 order-requires : tie.Need-order-requires Inv-loop μ-loop
@@ -111,16 +115,16 @@ loop-again c =
     )
 
 same-length-4 : tie.Need-same-length-4 Inv-loop μ-loop
-same-length-4 c = c .before .before .loop .inv .0 .same
+same-length-4 c = c .before .before .before .loop .inv .0 .same
 
 returns-4 : tie.Need-returns-4 Inv-loop μ-loop
 returns-4 c =
-    let l = c .before .before .loop in
-    record { grows = l .inv .1; decoded = (l .inv .0, λ h. absurd (omega arith)) }
+    let l = c .before .before .before .loop in
+    rw (c .completed2 .ensures) (record { grows = l .inv .1; decoded = (l .inv .0, λ h. absurd (omega arith)) })
 
 pub orders-to-spec : {M : Type 1} → statement M
 orders-to-spec =
     tie.close
-    (tie.spec Inv-loop μ-loop loop-holds read-head-requires (λ c. search needs) same-length returns (λ c. search needs) (λ c κs. search needs)
-    same-length-2 returns-2 (λ c. search needs) (λ c κs. search needs) order-requires (λ c. search needs) same-length-3 returns-3
-    (λ c. search needs) loop-less loop-again same-length-4 returns-4)
+    (tie.spec Inv-loop μ-loop loop-holds read-head-requires (λ c. search needs) (λ c κs. search needs) same-length returns (λ c. search needs)
+    (λ c κs. search needs) (λ c κs. search needs) same-length-2 returns-2 (λ c. search needs) (λ c κs. search needs) order-requires
+    (λ c. search needs) same-length-3 returns-3 (λ c. search needs) loop-less loop-again (λ c κs. search needs) same-length-4 returns-4)

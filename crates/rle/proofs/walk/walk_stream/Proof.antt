@@ -25,17 +25,19 @@ read-head-requires c κs =
 
 returns : tie.Need-returns Inv-loop μ-loop
 returns c =
-    let r = c .before .before .before in
-    walked-end (r .before .before .before .loop .inv) (rw (c .enum-told .given .1) at (r .read-head .ensures))
+    let t = c .before in
+    let r = t .before .before .before in
+    rw (c .completed .ensures) (walked-end (r .before .before .before .loop .inv) (rw (t .enum-told .given .1) at (r .read-head .ensures)))
 
 returns-2 : tie.Need-returns-2 Inv-loop μ-loop
 returns-2 c =
-    let r = c .before .before .before .before .before in
+    let m = c .before in
+    let r = m .before .before .before .before .before in
     let l = r .before .before .before in
     let s = l .before .before .before .before .before in
-    rw (c .moved .ensures, c .before .before .before .before .end-first-row .ensures)
+    rw (c .refused .ensures, m .moved .ensures, m .before .before .before .before .end-first-row .ensures)
     (walked-refused (l .loop .inv)
-    (head-refused (s .args .f) _ (l .loop .s) (l .loop .inv .within) (l .loop .inv .counted) (rw (c .before .before .h .given .1) at (r .read-head .ensures))) refl)
+    (head-refused (s .args .f) _ (l .loop .s) (l .loop .inv .within) (l .loop .inv .counted) (rw (m .before .before .h .given .1) at (r .read-head .ensures))) refl)
 
 sub-plan-by-kind : tie.Need-sub-plan-by-kind Inv-loop μ-loop
 sub-plan-by-kind c = c .before .before .before .before .before .before .before .before .before .loop .inv .within
@@ -96,6 +98,6 @@ pub walk-stream-spec : {M : Type 1} → statement M
 walk-stream-spec =
     tie.close
     (tie.spec Inv-loop μ-loop (λ c κs. search needs) (λ c κs. search needs) (λ c κs. search needs) loop-holds read-head-requires
-    (λ c κs. search needs) (λ c. search needs) returns (λ c. search needs) (λ c κs. search needs) returns-2 (λ c. search needs) sub-plan-by-kind
+    (λ c κs. search needs) (λ c. search needs) (λ c κs. search needs) returns (λ c. search needs) (λ c κs. search needs) (λ c κs. search needs) returns-2 (λ c. search needs) sub-plan-by-kind
     sub-plan-by-kind-2 plan-by-kind-requires (λ c κs. search needs) finished-requires (λ c. search needs) returns-3 (λ c. search needs)
     loop-less loop-again)
