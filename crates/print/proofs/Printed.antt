@@ -4,8 +4,7 @@ use mathlib.Core.List.{List, [], _∷_, _++_}
 use Prim.Native.Nat.{ℕ, zero, suc, _+_, _*_, _/_, _%_, _^_, _<_, _≤_}
 use native.Mathlib.Nat.{pow-suc}
 use native.Mathlib.Omega.{arith}
-use lib.ListN.{length, take, length-append}
-use lib.Seq.{length-take-le}
+use lib.ListN.{length, length-append}
 use borrow.Author.Tests.{lt-ltb, le-ltb}
 use Rattle.print.specs.Digits.{decimalIn, decimal, hexDigit, hexPairs}
 use Rattle.print.proofs.Tests.{by-less}
@@ -39,18 +38,11 @@ pub decimal-small : (n : ℕ) → n < 10 → decimal n ≡ (48 + n) ∷ []
 unfolding decimal
 decimal-small n h = in-small 19 n h
 
-module _ (n : ℕ) (fits : n < 10 ^ 20) where
-  tenth-less : n / 10 < 10 ^ 19
-  tenth-less = omega arith
-
-  -- a number of two digits or more is its tenth and one digit
-  pub decimal-more : 10 ≤ n → decimal n ≡ decimal (n / 10) ++ ((48 + n % 10) ∷ [])
-  unfolding decimal
-  decimal-more h = in-more 19 n h ∙ ap (λ (l : List ℕ). l ++ ((48 + n % 10) ∷ [])) (enough 18 (n / 10) tenth-less)
-
-  pub tenth-length : length (decimal (n / 10)) ≤ 19
-  unfolding decimal
-  tenth-length = rw (← enough 18 (n / 10) tenth-less) (in-length 19 (n / 10))
+-- a number of two digits or more is its tenth and one digit
+pub decimal-more : (n : ℕ) → n < 10 ^ 20 → 10 ≤ n → decimal n ≡ decimal (n / 10) ++ ((48 + n % 10) ∷ [])
+unfolding decimal
+decimal-more n fits h =
+    in-more 19 n h ∙ ap (λ (l : List ℕ). l ++ ((48 + n % 10) ∷ [])) (enough 18 (n / 10) (omega arith))
 
 pub decimal-length : (n : ℕ) → length (decimal n) ≤ 20
 unfolding decimal
@@ -58,15 +50,23 @@ decimal-length n = in-length 20 n
 
 -- ---- hexadecimal
 
+pub hex-low : (d : ℕ) → d < 10 → hexDigit d ≡ 48 + d
+unfolding hexDigit
+hex-low d h = rw (lt-ltb d 10 h)
+
+pub hex-high : (d : ℕ) → 10 ≤ d → hexDigit d ≡ 87 + d
+unfolding hexDigit
+hex-high d h = rw (le-ltb d 10 h)
+
+pub not-line-feed : (d : ℕ) → hexDigit d ≡ 10 → ⊥
+not-line-feed d e = by-less d 10 (λ low. omega (arith, hex-low d low)) (λ high. omega (arith, hex-high d high))
+
 pub pairs-append : (xs ys : List ℕ) → hexPairs (xs ++ ys) ≡ hexPairs xs ++ hexPairs ys
 unfolding hexPairs
 pairs-append [] ys = refl
 pairs-append (x ∷ xs) ys = ap (λ (l : List ℕ). hexDigit (x / 16) ∷ hexDigit (x % 16) ∷ l) (pairs-append xs ys)
 
-pairs-length : (xs : List ℕ) → length (hexPairs xs) ≡ 2 * length xs
+pub pairs-length : (xs : List ℕ) → length (hexPairs xs) ≡ 2 * length xs
 unfolding hexPairs
 pairs-length [] = refl
 pairs-length (x ∷ xs) = omega (arith, pairs-length xs)
-
-pub taken-length : (n : ℕ) (xs : List ℕ) → n ≤ length xs → length (hexPairs (take n xs)) ≡ 2 * n
-taken-length n xs h = pairs-length (take n xs) ∙ rw (length-take-le n xs h)

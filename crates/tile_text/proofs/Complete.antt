@@ -7,12 +7,14 @@ use native.Mathlib.Omega.{arith}
 use native.Mathlib.Nat.{pow-suc}
 use borrow.Author.Tests.{ne-eqb, lt-ltb}
 use Rattle.picture.specs.Pixels.{pick}
-use Rattle.tile_text.specs.Text.{decimalIn, decimal, hexDigit, hexPairs, widthKey, heightKey, bppKey, streamKey, line, textOf, Bytes, Tile}
+use Rattle.print.specs.Text.{line}
+use Rattle.print.specs.Digits.{decimalIn, decimal, hexDigit, hexPairs}
+use Rattle.tile_text.specs.Text.{widthKey, heightKey, bppKey, streamKey, textOf, Bytes, Tile}
 use Rattle.tile_text.specs.Parse.{keys, keyByte, start, withValue, endNumber, countMore, byteRead, goesOn, numberDigit, numberStep, streamStep, keyStep, step, fed}
 use Rattle.tile_text.specs.declared.parser.Parser.{Parser}
-use Rattle.tile_text.proofs.Tests.{by-less}
-use Rattle.tile_text.proofs.Digits.{decimal-value, hex-value, not-line-feed}
-use Rattle.tile_text.proofs.Printed.{in-small, in-more}
+use Rattle.print.proofs.Tests.{by-less}
+use Rattle.print.proofs.Printed.{in-small, in-more, not-line-feed}
+use Rattle.tile_text.proofs.Digits.{decimal-value, hex-value}
 use Rattle.tile_text.proofs.Steps.{step-number, step-stream}
 use Rattle.tile_text.proofs.Chunks.{fed-append}
 

@@ -4,10 +4,11 @@ use Prim.Native.Nat.{ℕ, _+_, _-_, _<_, _≤_}
 use native.Mathlib.Omega.{arith}
 use lib.Dec.{ltb, leb}
 use borrow.Author.Tests.{lt-ltb, le-ltb, le-leb, lt-leb, ltb-false}
-use Rattle.tile_text.specs.Text.{hexDigit}
+use Rattle.print.specs.Digits.{hexDigit}
 use Rattle.tile_text.specs.Parse.{decimalValue, hexValue}
 use Rattle.picture.proofs.Tests.{by-test}
-use Rattle.tile_text.proofs.Tests.{by-less}
+use Rattle.print.proofs.Tests.{by-less}
+use Rattle.print.proofs.Printed.{hex-low, hex-high}
 
 -- ---- decimal digits
 
@@ -28,14 +29,6 @@ decimal-value d h = rw (le-ltb (48 + d) 48 (omega arith), le-ltb 57 (48 + d) (om
 
 -- ---- hexadecimal digits
 
-hex-low : (d : ℕ) → d < 10 → hexDigit d ≡ 48 + d
-unfolding hexDigit
-hex-low d h = rw (lt-ltb d 10 h)
-
-hex-high : (d : ℕ) → 10 ≤ d → hexDigit d ≡ 87 + d
-unfolding hexDigit
-hex-high d h = rw (le-ltb d 10 h)
-
 pub hex-digit : (b : ℕ) → hexValue b < 16 → b ≡ hexDigit (hexValue b)
 unfolding hexValue
 hex-digit b =
@@ -53,6 +46,3 @@ unfolding hexValue
 hex-value d h =
     by-less d 10 (λ low. rw (hex-low d low, le-leb (48 + d) 57 (omega arith)) (decimal-value d low))
     (λ high. rw (hex-high d high, lt-leb (87 + d) 57 (omega arith), le-ltb (87 + d) 97 (omega arith), le-ltb 102 (87 + d) (omega arith)) (omega arith))
-
-pub not-line-feed : (d : ℕ) → hexDigit d ≡ 10 → ⊥
-not-line-feed d e = by-less d 10 (λ low. omega (arith, hex-low d low)) (λ high. omega (arith, hex-high d high))

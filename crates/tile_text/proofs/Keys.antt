@@ -10,7 +10,8 @@ use lib.ListN.{length, getD, take, List·getD-eq-default}
 use lib.Seq.{take-suc, take-all}
 use Rattle.tile_text.specs.Text.{widthKey, heightKey, bppKey, streamKey}
 use Rattle.tile_text.specs.Parse.{keys, keyByte}
-use Rattle.tile_text.proofs.Tests.{by-less, below, at}
+use Rattle.print.proofs.Tests.{by-less}
+use Rattle.tile_text.proofs.Tests.{below, at}
 
 abbrev pub keyOf : ℕ → List ℕ
 keyOf l = getD keys l []
@@ -67,9 +68,7 @@ key-more l i h = rw add-one (take-suc (keyOf l) i 0 (in-key l i h))
 -- ---- the code's table
 
 abbrev table : List ℕ
-table =
-    119 ∷ 105 ∷ 100 ∷ 116 ∷ 104 ∷ 61 ∷ 0 ∷ 104 ∷ 101 ∷ 105 ∷ 103 ∷ 104 ∷ 116 ∷ 61 ∷ 98 ∷ 112 ∷ 112 ∷ 61 ∷ 0 ∷ 0 ∷ 0 ∷ 115 ∷ 116
-    ∷ 114 ∷ 101 ∷ 97 ∷ 109 ∷ 61 ∷ []
+table = widthKey ++ (0 ∷ []) ++ heightKey ++ bppKey ++ (0 ∷ 0 ∷ 0 ∷ []) ++ streamKey
 
 abbrev right : ℕ → Bool
 right k = eqb (getD table k 0) (keyByte (k / 7) (k % 7))

@@ -10,14 +10,16 @@ use lib.ListN.{length, getD, take, set, length-append, length-set, List·getD-ap
 use lib.Seq.{getD-set-same, getD-set-other, getD-append-seam}
 use borrow.Author.Tests.{ltb-true, ltb-false, eqb-true, eqb-false}
 use Rattle.picture.specs.Pixels.{pick}
-use Rattle.tile_text.specs.Text.{decimal, hexDigit, hexPairs, widthKey, heightKey, bppKey, streamKey, line, textOf, Bytes}
+use Rattle.print.specs.Text.{line}
+use Rattle.print.specs.Digits.{decimal, hexDigit, hexPairs}
+use Rattle.tile_text.specs.Text.{widthKey, heightKey, bppKey, streamKey, textOf, Bytes}
 use Rattle.tile_text.specs.Parse.{keys, keyByte, decimalValue, hexValue, start, onLine, bad, keyRead, withValue, nextLine, endNumber, countMore, byteRead, goesOn, numberDigit, step, endsByte, stored, fed, fedInto}
 use Rattle.tile_text.specs.declared.parser.Parser.{Parser}
 use Rattle.picture.proofs.Tests.{by-test}
-use Rattle.tile_text.proofs.Tests.{by-less}
+use Rattle.print.proofs.Tests.{by-less}
 use Rattle.tile_text.proofs.Keys.{keyOf, key-over, key-more}
 use Rattle.tile_text.proofs.Digits.{decimal-digit, hex-digit}
-use Rattle.tile_text.proofs.Printed.{decimal-small, decimal-more, pairs-append}
+use Rattle.print.proofs.Printed.{decimal-small, decimal-more, pairs-append}
 use Rattle.tile_text.proofs.Steps.{clash, going-on, step-key, step-number, step-stream, step-after, key-cases, number-cases, stream-cases, ends-elsewhere, ends-first, ends-second, stored-in, stored-past, stored-not}
 
 -- ---- what is read

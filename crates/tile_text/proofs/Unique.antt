@@ -6,11 +6,14 @@ use native.Mathlib.Omega.{arith}
 use lib.ListN.{length, drop}
 use lib.Seq.{drop-append-seam}
 use Rattle.rle.specs.Decode.{Result}
-use Rattle.tile_text.specs.Text.{decimal, hexDigit, hexPairs, widthKey, heightKey, bppKey, streamKey, line, textOf, Bytes, Tile}
+use Rattle.print.specs.Text.{line}
+use Rattle.print.specs.Digits.{decimal, hexDigit, hexPairs}
+use Rattle.tile_text.specs.Text.{widthKey, heightKey, bppKey, streamKey, textOf, Bytes, Tile}
 use Rattle.tile_text.specs.Answer.{answerOf, Answers, tile, noTile}
 use Rattle.tile_text.specs.Parse.{hexValue}
 use Rattle.tile_text.specs.declared.parser.Parser.{Parser}
-use Rattle.tile_text.proofs.Digits.{hex-value, not-line-feed}
+use Rattle.print.proofs.Printed.{not-line-feed}
+use Rattle.tile_text.proofs.Digits.{hex-value}
 use Rattle.tile_text.proofs.Inverse.{complete}
 
 same-digit : (c d : ℕ) → c < 16 → d < 16 → hexDigit c ≡ hexDigit d → c ≡ d

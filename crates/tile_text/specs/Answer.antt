@@ -9,7 +9,9 @@ use lib.ListN.{length}
 use Rattle.picture.specs.Pixels.{pick, bytesOf}
 use Rattle.picture.specs.Sizes.{Refusal, refusal, checked, Size, bytes, refused, sizeOf}
 use Rattle.rle.specs.Decode.{Result, result}
-use Rattle.tile_text.specs.Text.{decimal, hexPairs, line, textOf, Tile}
+use Rattle.print.specs.Text.{ascii, line}
+use Rattle.print.specs.Digits.{decimal, hexPairs}
+use Rattle.tile_text.specs.Text.{textOf, Tile}
 
 -- a refusal that decodes nothing: the counts are 0, and no byte is painted
 unfoldable pub refusedWith : Refusal → Result
@@ -35,39 +37,31 @@ answerOf w h b stream = limited (sizeOf (checked b w h)) (length stream) (result
 
 -- `Rgb` and the bits of a pixel, as in `Rgb8`; on a refusal, where the format is 0, `none`
 unfoldable pub formatName : ℕ → List ℕ
-formatName k = pick (eqb k 0) (110 ∷ 111 ∷ 110 ∷ 101 ∷ []) (82 ∷ 103 ∷ 98 ∷ decimal k)
+unfolding ascii
+formatName k = pick (eqb k 0) (ascii "none") (ascii "Rgb" ++ decimal k)
 
--- `format=`, `refusal=`, `first=`, `second=`, `orders=`, `pixels=`, `painted=`
-unfoldable pub formatKey : List ℕ
-formatKey = 102 ∷ 111 ∷ 114 ∷ 109 ∷ 97 ∷ 116 ∷ 61 ∷ []
+unfoldable pub formatLine : ℕ → List ℕ
+unfolding ascii
+formatLine k = line (ascii "format=") (formatName k)
 
-unfoldable pub refusalKey : List ℕ
-refusalKey = 114 ∷ 101 ∷ 102 ∷ 117 ∷ 115 ∷ 97 ∷ 108 ∷ 61 ∷ []
+unfoldable pub paintedLine : List ℕ → List ℕ
+unfolding ascii
+paintedLine xs = line (ascii "painted=") (hexPairs xs)
 
-unfoldable pub firstKey : List ℕ
-firstKey = 102 ∷ 105 ∷ 114 ∷ 115 ∷ 116 ∷ 61 ∷ []
-
-unfoldable pub secondKey : List ℕ
-secondKey = 115 ∷ 101 ∷ 99 ∷ 111 ∷ 110 ∷ 100 ∷ 61 ∷ []
-
-unfoldable pub ordersKey : List ℕ
-ordersKey = 111 ∷ 114 ∷ 100 ∷ 101 ∷ 114 ∷ 115 ∷ 61 ∷ []
-
-unfoldable pub pixelsKey : List ℕ
-pixelsKey = 112 ∷ 105 ∷ 120 ∷ 101 ∷ 108 ∷ 115 ∷ 61 ∷ []
-
-unfoldable pub paintedKey : List ℕ
-paintedKey = 112 ∷ 97 ∷ 105 ∷ 110 ∷ 116 ∷ 101 ∷ 100 ∷ 61 ∷ []
+-- the lines with these values: the format, the refusal, the counts of orders and pixels, the painted bytes
+unfoldable pub linesWith : ℕ → Refusal → ℕ → ℕ → List ℕ → List ℕ
+unfolding ascii
+linesWith format r orders pixels painted =
+    formatLine format
+    ++ line (ascii "refusal=") (decimal (r .number))
+    ++ line (ascii "first=") (decimal (r .first))
+    ++ line (ascii "second=") (decimal (r .second))
+    ++ line (ascii "orders=") (decimal orders)
+    ++ line (ascii "pixels=") (decimal pixels)
+    ++ paintedLine painted
 
 unfoldable pub linesOf : Result → List ℕ
-linesOf e =
-    line formatKey (formatName (e .format))
-    ++ line refusalKey (decimal (e .refusal .number))
-    ++ line firstKey (decimal (e .refusal .first))
-    ++ line secondKey (decimal (e .refusal .second))
-    ++ line ordersKey (decimal (e .orders))
-    ++ line pixelsKey (decimal (length (e .painted)))
-    ++ line paintedKey (hexPairs (bytesOf (e .bytes) (e .painted)))
+linesOf e = linesWith (e .format) (e .refusal) (e .orders) (length (e .painted)) (bytesOf (e .bytes) (e .painted))
 
 -- ---- the answer to a text
 

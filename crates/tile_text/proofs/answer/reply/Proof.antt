@@ -11,7 +11,7 @@ put-lines-requires : tie.Need-put-lines-requires
 put-lines-requires c κs = let a = c .before .before .answer .ensures in rw (a .fields) (a .fits)
 
 returns : tie.Need-returns
-returns c = replied (c .before .before .before .answer .ensures) (c .put-lines .ensures .0) (c .put-lines .ensures .1 .0) (c .put-lines .ensures .1 .1)
+returns c = replied (c .before .before .before .answer .ensures) (c .put-lines .ensures .0) (c .put-lines .ensures .1)
 
 pub reply-spec : {M : Type 1} → statement M
 reply-spec = tie.close (tie.spec answer-requires put-lines-requires returns)

@@ -1,5 +1,6 @@
 -- `key_byte` meets its contract: the table has the keys. Assumes nothing.
 use mathlib.Core.Path.{sym, _∙_}
+use Rattle.tile_text.specs.Text.{widthKey, heightKey, bppKey, streamKey}
 use Rattle.tile_text.proofs.Keys.{past-lines, past-seven, key-in-table}
 use borrow.Author.Needs.{needs}
 use Rattle.tile_text.proofs.parser.key_byte.Statement.{statement}
@@ -24,6 +25,7 @@ wide-requires : tie.Need-wide-requires
 wide-requires c κs = search needs
 
 returns-3 : tie.Need-returns-3
+unfolding widthKey heightKey bppKey streamKey
 returns-3 c = c .wide .ensures ∙ key-in-table _ _ (c .before .before .if1 .left) (c .before .if2 .left)
 
 pub key-byte-spec : {M : Type 1} → statement M
