@@ -160,18 +160,19 @@ while IFS= read -r -d '' -n 1 byte; do
 done <"$room/good" | "$tile" >"$room/given" || echo "exit status $?" >>"$room/given"
 compare 'one byte at a time'
 
-# ---- what can't be read or written: a line on standard error, and no answer to a text that wasn't read
-"$tile" <"$room/good" >"$room/given" 2>&1
+# ---- what can't be read or written: a line on standard error, and no answer to a text that wasn't
+# read to its end
+{ "$tile" <"$room/good" || echo "exit status $?"; } >"$room/given" 2>&1
 compare 'nothing is said beside an answer'
 echo 'tile: cannot read standard input' >"$room/due"
-"$tile" </ >"$room/given" 2>&1
+{ "$tile" </ || echo "exit status $?"; } >"$room/given" 2>&1
 compare 'a folder as standard input'
-"$tile" <&- >"$room/given" 2>&1
+{ "$tile" <&- || echo "exit status $?"; } >"$room/given" 2>&1
 compare 'standard input closed'
 echo 'tile: cannot write standard output' >"$room/due"
-"$tile" <"$room/good" 2>"$room/given" >/dev/full
+{ "$tile" <"$room/good" >/dev/full || echo "exit status $?" >&2; } 2>"$room/given"
 compare 'standard output full'
-"$tile" <"$room/good" 2>"$room/given" >&-
+{ "$tile" <"$room/good" >&- || echo "exit status $?" >&2; } 2>"$room/given"
 compare 'standard output closed'
 
 passed=$(wc -l <"$room/passed") failed=$(wc -l <"$room/failed")
