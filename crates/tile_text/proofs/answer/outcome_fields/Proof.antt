@@ -3,13 +3,10 @@ use borrow.Author.Needs.{needs}
 use Rattle.tile_text.proofs.answer.outcome_fields.Statement.{statement}
 use Rattle.tile_text.proofs.answer.outcome_fields.Tie as tie
 
-numbers-of-requires : tie.Need-numbers-of-requires
-numbers-of-requires c κs = search needs
-
 returns : tie.Need-returns
 returns c =
     let n = c .numbers-of .ensures in
     simp (n .format, n .refusal, n .first, n .second)
 
 pub outcome-fields-spec : {M : Type 1} → statement M
-outcome-fields-spec = tie.close (tie.spec numbers-of-requires returns)
+outcome-fields-spec = tie.close (tie.spec (λ c κs. search needs) returns)

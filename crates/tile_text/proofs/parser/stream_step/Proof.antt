@@ -5,9 +5,6 @@ use borrow.Author.Needs.{needs}
 use Rattle.tile_text.proofs.parser.stream_step.Statement.{statement}
 use Rattle.tile_text.proofs.parser.stream_step.Tie as tie
 
-bad-requires : tie.Need-bad-requires
-bad-requires c κs = search needs
-
 returns : tie.Need-returns
 unfolding streamStep
 returns c = simp (eq-eqb _ _ (c .before .before .if1 .taken), c .before .if2 .taken) (c .bad .ensures)
@@ -16,18 +13,9 @@ returns-2 : tie.Need-returns-2
 unfolding streamStep
 returns-2 c = simp (eq-eqb _ _ (c .before .if1 .taken), c .if2 .left)
 
-hex-value-requires : tie.Need-hex-value-requires
-hex-value-requires c κs = search needs
-
-bad-requires-2 : tie.Need-bad-requires-2
-bad-requires-2 c κs = search needs
-
 returns-3 : tie.Need-returns-3
 unfolding streamStep
 returns-3 c = rw (← c .before .before .hex-value .ensures) (simp (ne-eqb _ _ (c .before .before .before .if1 .left), le-ltb _ _ (c .before .if3 .taken)) (c .bad2 .ensures))
-
-byte-read-requires : tie.Need-byte-read-requires
-byte-read-requires c κs = search needs
 
 returns-4 : tie.Need-returns-4
 unfolding streamStep
@@ -40,13 +28,5 @@ returns-5 c = rw (← c .before .before .hex-value .ensures) (simp (ne-eqb _ _ (
 pub stream-step-spec : {M : Type 1} → statement M
 stream-step-spec =
     tie.close
-    (tie.spec
-    bad-requires
-    returns
-    returns-2
-    hex-value-requires
-    bad-requires-2
-    returns-3
-    byte-read-requires
-    returns-4
-    returns-5)
+    (tie.spec (λ c κs. search needs) returns returns-2 (λ c κs. search needs) (λ c κs. search needs) returns-3 (λ c κs. search needs)
+    returns-4 returns-5)
