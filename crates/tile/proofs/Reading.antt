@@ -1,5 +1,5 @@
 -- One read after the other is one text. Assumes nothing.
-use mathlib.Core.Path.{_≡_, refl, _∙_, ap, sym}
+use mathlib.Core.Path.{_≡_, refl, _∙_, sym}
 use mathlib.Core.List.{List, [], _++_}
 use Prim.Native.Nat.{ℕ}
 use Rattle.tile_text.specs.Parse.{fed, fedInto}

@@ -16,7 +16,7 @@ use Rattle.rle.specs.Report.{Agrees, Decompresses}
 use Rattle.rle.specs.declared.report.Report.{Report}
 use Rattle.picture.proofs.Sizes.{sized}
 use Rattle.rle.proofs.Theorems.{with-space}
-use Rattle.print.specs.Text.{line}
+use Rattle.print.specs.Text.{ascii, line}
 use Rattle.print.specs.Writes.{Writes}
 use Rattle.tile_text.specs.Answer.{refusedWith, badTileText, tileTooLarge, limited, formatName, formatLine, paintedLine, linesWith, linesOf}
 use Rattle.tile_text.specs.Reply.{decoded, replyOf, Replies}
@@ -133,13 +133,13 @@ unfolding line
 line-length key value = simp length-append
 
 name-length : (k : ℕ) → length (formatName k) ≤ 23
-unfolding formatName
+unfolding formatName ascii
 name-length k =
     by-test (λ (l : List ℕ). length l ≤ 23) (eqb k 0) (λ _. omega arith) (λ _. omega (arith, decimal-length k))
 
 -- 171 bytes of a report with 20 digits for each number, and 131,081 of the painted bytes' line
 lines-length : (e : Result) → length (bytesOf (e .bytes) (e .painted)) ≤ 65536 → length (linesOf e) ≤ 131252
-unfolding linesOf linesWith formatLine paintedLine
+unfolding linesOf linesWith formatLine paintedLine ascii
 lines-length e h =
     let r = e .refusal in
     simp (length-append, line-length, pairs-length)

@@ -2,7 +2,7 @@
 -- lines in which that is printed. `Answers` is what the program is for: a text that is some tile's has that tile's answer, and one that
 -- is no tile's is refused.
 use mathlib.Core.Path.{_≡_}
-use mathlib.Core.List.{List, [], _∷_, _++_}
+use mathlib.Core.List.{List, [], _++_}
 use Prim.Native.Nat.{ℕ}
 use lib.Dec.{ltb, eqb}
 use lib.ListN.{length}
@@ -37,20 +37,16 @@ answerOf w h b stream = limited (sizeOf (checked b w h)) (length stream) (result
 
 -- `Rgb` and the bits of a pixel, as in `Rgb8`; on a refusal, where the format is 0, `none`
 unfoldable pub formatName : ℕ → List ℕ
-unfolding ascii
 formatName k = pick (eqb k 0) (ascii "none") (ascii "Rgb" ++ decimal k)
 
 unfoldable pub formatLine : ℕ → List ℕ
-unfolding ascii
 formatLine k = line (ascii "format=") (formatName k)
 
 unfoldable pub paintedLine : List ℕ → List ℕ
-unfolding ascii
 paintedLine xs = line (ascii "painted=") (hexPairs xs)
 
 -- the lines with these values: the format, the refusal, the counts of orders and pixels, the painted bytes
 unfoldable pub linesWith : ℕ → Refusal → ℕ → ℕ → List ℕ → List ℕ
-unfolding ascii
 linesWith format r orders pixels painted =
     formatLine format
     ++ line (ascii "refusal=") (decimal (r .number))

@@ -1,32 +1,24 @@
 -- Cases of the tile program, computed by the definitions: a whole one, whose bytes are those of the program's files `stdin` and
 -- `stdout`, and the name of each format. Assumes nothing.
 use mathlib.Core.Path.{_≡_, refl}
-use mathlib.Core.List.{List, [], _∷_, map}
-use Prim.Native.Nat.{ℕ}
+use mathlib.Core.List.{[], _∷_, map}
 use Rattle.picture.specs.Pixels as Pixels
 use Rattle.picture.specs.Sizes as Sizes
 use Rattle.rle.specs.Orders as Orders
 use Rattle.rle.specs.Decode as Decode
 use Rattle.print.specs.Text.{ascii, line}
 use Rattle.print.specs.Digits as Digits
-use Rattle.tile_text.specs.Text as Text
 use Rattle.tile_text.specs.Answer as Answer
 use Rattle.tile_text.specs.Text.{textOf}
 use Rattle.tile_text.specs.Answer.{formatName, answerOf, linesOf}
 
-abbrev pub text : List ℕ
-unfolding ascii
-text = ascii "width=4\nheight=2\nbpp=8\nstream=0202\n"
-
-abbrev pub lines : List ℕ
-unfolding ascii
-lines = ascii "format=Rgb8\nrefusal=0\nfirst=0\nsecond=0\norders=2\npixels=4\npainted=0000ff00\n"
-
-pub case-text : textOf 4 2 8 (2 ∷ 2 ∷ []) ≡ text
-unfolding ascii textOf line Digits.decimal Digits.decimalIn Digits.hexPairs Digits.hexDigit Text.widthKey Text.heightKey Text.bppKey Text.streamKey
+pub case-text : textOf 4 2 8 (2 ∷ 2 ∷ []) ≡ ascii "width=4\nheight=2\nbpp=8\nstream=0202\n"
+unfolding ascii textOf line Digits.decimal Digits.decimalIn Digits.hexPairs Digits.hexDigit
 case-text = refl
 
-pub case-lines : linesOf (answerOf 4 2 8 (2 ∷ 2 ∷ [])) ≡ lines
+pub case-lines :
+    linesOf (answerOf 4 2 8 (2 ∷ 2 ∷ []))
+    ≡ ascii "format=Rgb8\nrefusal=0\nfirst=0\nsecond=0\norders=2\npixels=4\npainted=0000ff00\n"
 unfolding ascii answerOf linesOf formatName Answer.formatLine Answer.paintedLine Answer.linesWith Answer.limited line Digits.decimal Digits.decimalIn Digits.hexPairs Digits.hexDigit Sizes.sizeOf
     Pixels.firstPixel
     Pixels.bytesOf

@@ -5,27 +5,13 @@ use Prim.Native.Nat.{ℕ, _<_}
 use Rattle.print.specs.Text.{ascii, line}
 use Rattle.print.specs.Digits.{decimal, hexPairs}
 
--- the lines' keys
-unfoldable pub widthKey : List ℕ
-unfolding ascii
-widthKey = ascii "width="
-
-unfoldable pub heightKey : List ℕ
-unfolding ascii
-heightKey = ascii "height="
-
-unfoldable pub bppKey : List ℕ
-unfolding ascii
-bppKey = ascii "bpp="
-
-unfoldable pub streamKey : List ℕ
-unfolding ascii
-streamKey = ascii "stream="
-
 -- the text of a tile: its width, height and depth, and its stream
 unfoldable pub textOf : ℕ → ℕ → ℕ → List ℕ → List ℕ
 textOf w h b stream =
-    line widthKey (decimal w) ++ line heightKey (decimal h) ++ line bppKey (decimal b) ++ line streamKey (hexPairs stream)
+    line (ascii "width=") (decimal w)
+    ++ line (ascii "height=") (decimal h)
+    ++ line (ascii "bpp=") (decimal b)
+    ++ line (ascii "stream=") (hexPairs stream)
 
 -- each is a byte
 unfoldable pub Bytes : List ℕ → Type 0

@@ -1,12 +1,13 @@
 -- `put_painted` meets its contract: the key, the pairs and a line feed, one after the other. Assumes nothing.
 use Rattle.print.proofs.Writing.{line-written}
+use Rattle.print.specs.Text.{ascii}
 use Rattle.tile_text.specs.Answer.{paintedLine}
 use borrow.Author.Needs.{needs}
 use Rattle.tile_text.proofs.lines.put_painted.Statement.{statement}
 use Rattle.tile_text.proofs.lines.put_painted.Tie as tie
 
 returns : tie.Need-returns
-unfolding paintedLine
+unfolding paintedLine ascii
 returns c =
     let pairs = c .before .before .before .before .before .before in
     line-written (pairs .before .before .before .before .put-bytes .ensures) (pairs .put-pairs .ensures) (c .before .before .put-byte .ensures)

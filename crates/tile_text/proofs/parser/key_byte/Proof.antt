@@ -1,6 +1,6 @@
 -- `key_byte` meets its contract: the table has the keys. Assumes nothing.
 use mathlib.Core.Path.{sym, _∙_}
-use Rattle.tile_text.specs.Text.{widthKey, heightKey, bppKey, streamKey}
+use Rattle.print.specs.Text.{ascii}
 use Rattle.tile_text.proofs.Keys.{past-lines, past-seven, key-in-table}
 use borrow.Author.Needs.{needs}
 use Rattle.tile_text.proofs.parser.key_byte.Statement.{statement}
@@ -13,7 +13,7 @@ returns-2 : tie.Need-returns-2
 returns-2 c = sym (past-seven _ _ (c .if2 .taken))
 
 returns-3 : tie.Need-returns-3
-unfolding widthKey heightKey bppKey streamKey
+unfolding ascii
 returns-3 c = c .wide .ensures ∙ key-in-table _ _ (c .before .before .if1 .left) (c .before .if2 .left)
 
 pub key-byte-spec : {M : Type 1} → statement M
