@@ -141,9 +141,13 @@ name-length k =
 lines-length : (e : Result) → length (bytesOf (e .bytes) (e .painted)) ≤ 65536 → length (linesOf e) ≤ 131252
 unfolding linesOf linesWith formatLine paintedLine ascii
 lines-length e h =
-    let r = e .refusal in
-    simp (length-append, line-length, pairs-length)
-    (omega (arith, name-length (e .format), decimal-length (r .number), decimal-length (r .first), decimal-length (r .second), decimal-length (e .orders), decimal-length (length (e .painted))))
+    let name = name-length (e .format) in
+    let number = decimal-length (e .refusal .number) in
+    let first = decimal-length (e .refusal .first) in
+    let second = decimal-length (e .refusal .second) in
+    let orders = decimal-length (e .orders) in
+    let pixels = decimal-length (length (e .painted)) in
+    simp (length-append, line-length, pairs-length) (omega arith)
 
 pub replied : {e : Result} {before after out out' : List ℕ} {v : Fields} {r : ℕ} → Answered e before after v
     → Writes out 0 (fieldLines v after) out' r → length out ≡ 131328 → Replies e before after out out' r

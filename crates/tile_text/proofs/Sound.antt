@@ -29,7 +29,8 @@ unfoldable pub linesBefore : ℕ → ℕ → ℕ → ℕ → List ℕ
 linesBefore zero w h b = []
 linesBefore (suc zero) w h b = line (ascii "width=") (decimal w)
 linesBefore (suc (suc zero)) w h b = line (ascii "width=") (decimal w) ++ line (ascii "height=") (decimal h)
-linesBefore (suc (suc (suc l))) w h b = (line (ascii "width=") (decimal w) ++ line (ascii "height=") (decimal h)) ++ line (ascii "bpp=") (decimal b)
+linesBefore (suc (suc (suc l))) w h b =
+    line (ascii "width=") (decimal w) ++ line (ascii "height=") (decimal h) ++ line (ascii "bpp=") (decimal b)
 
 abbrev pub front : ℕ → Parser → List ℕ
 front l p = linesBefore l (p .width) (p .height) (p .bpp)

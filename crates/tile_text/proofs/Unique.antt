@@ -41,7 +41,9 @@ stream-unique : (w h b : ℕ) (s u : List ℕ) → Bytes s → Bytes u → textO
 unfolding textOf line
 stream-unique w h b s u f g e =
     let same = after-same (line (ascii "width=") (decimal w) ++ line (ascii "height=") (decimal h) ++ line (ascii "bpp=") (decimal b)) _ _ e in
-    pairs-unique s u f g (after-same (ascii "stream=") _ _ (sym (append-assoc (ascii "stream=") (hexPairs s) (10 ∷ [])) ∙ same ∙ append-assoc (ascii "stream=") (hexPairs u) (10 ∷ [])))
+    let key = ascii "stream=" in
+    let values = sym (append-assoc key (hexPairs s) (10 ∷ [])) ∙ same ∙ append-assoc key (hexPairs u) (10 ∷ []) in
+    pairs-unique s u f g (after-same key _ _ values)
 
 tile-unique : (w h b w' h' b' : ℕ) (s u : List ℕ) → Tile w h b s → Tile w' h' b' u → textOf w h b s ≡ textOf w' h' b' u
     → answerOf w h b s ≡ answerOf w' h' b' u

@@ -7,7 +7,8 @@ use Rattle.print.proofs.put_number.Tie as tie
 returns : tie.Need-returns
 returns c =
     let digits = c .before .before .before .before .before .before in
-    line-written (digits .before .before .before .before .put-bytes .ensures) (digits .put-decimal .ensures) (c .before .before .put-byte .ensures)
+    let key = digits .before .before .before .before in
+    line-written (key .put-bytes .ensures) (digits .put-decimal .ensures) (c .before .before .put-byte .ensures)
 
 pub put-number-spec : {M : Type 1} → statement M
 put-number-spec = tie.close (tie.spec (λ c κs. search needs) (λ c κs. search needs) (λ c κs. search needs) (λ c. search needs) returns)

@@ -13,14 +13,17 @@ returns c = answered-bad _ _ _ _ (c .before .if1 .taken) (c .refusal-fields .ens
 
 returns-2 : tie.Need-returns-2
 returns-2 c =
-    let test = c .before .before .before .before .before .before in
-    let size = rw (c .before .before .before .size2 .given .1) at (c .before .before .before .before .before .picture-size .ensures) in
-    answered-large _ _ _ _ (test .if1 .left) _ size (λ fits. absurd (omega (arith, c .before .if2 .taken))) (c .refusal-fields2 .ensures)
+    let fits = c .before .before .before in
+    let sized = fits .before .before in
+    let size = rw (fits .size2 .given .1) at (sized .picture-size .ensures) in
+    answered-large _ _ _ _ (sized .before .if1 .left) _ size (λ fits. absurd (omega (arith, c .before .if2 .taken))) (c .refusal-fields2 .ensures)
 
 returns-3 : tie.Need-returns-3
 returns-3 c =
-    let size = rw (c .before .before .before .before .before .size2 .given .1) at (c .before .before .before .before .before .before .before .picture-size .ensures) in
-    answered-large _ _ _ _ (c .before .before .before .before .before .before .before .before .if1 .left) _ size (λ _. c .before .if3 .taken) (c .refusal-fields3 .ensures)
+    let fits = c .before .before .before .before .before in
+    let sized = fits .before .before in
+    let size = rw (fits .size2 .given .1) at (sized .picture-size .ensures) in
+    answered-large _ _ _ _ (sized .before .if1 .left) _ size (λ _. c .before .if3 .taken) (c .refusal-fields3 .ensures)
 
 slice-aggregate-decompress : tie.Need-slice-aggregate-decompress
 slice-aggregate-decompress c = sym (length-take-le _ _ (omega (arith, c .before .read .given .0)))
@@ -28,24 +31,34 @@ slice-aggregate-decompress c = sym (length-take-le _ _ (omega (arith, c .before 
 mul-painted : tie.Need-mul-painted
 mul-painted c =
     let call = c .before .before in
-    let size = rw (call .before .before .before .before .before .before .before .before .size2 .given .1) at (call .before .before .before .before .before .before .before .before .before .before .picture-size .ensures) in
+    let small = call .before .before .before .before .before .before in
+    let fits = small .before .before in
+    let sized = fits .before .before in
+    let size = rw (fits .size2 .given .1) at (sized .picture-size .ensures) in
     let space = call .before .decompress-arg2 .given .0 .1 in
-    let a = call .before .before .before .before .before .before .before .before .before .before .before .before .before .args in
-    omega (arith, painted-fit (a .p) (a .stream .now) _ _ _ _ size (call .before .before .before .before .before .before .if2 .left) space (call .decompress .kept .1 .0) _ (c .before .bytes-per-pixel .ensures) (call .decompress .ensures))
+    let a = sized .before .before .before .args in
+    let d = call .decompress in
+    omega (arith, painted-fit (a .p) (a .stream .now) _ _ _ _ size (small .if2 .left) space (d .kept .1 .0) _ (c .before .bytes-per-pixel .ensures) (d .ensures))
 
 returns-4 : tie.Need-returns-4
 returns-4 c =
-    let size = rw (c .before .before .size .given .1) at (c .before .before .before .before .picture-size .ensures) in
-    answered-refused _ _ _ _ (c .before .before .before .before .before .if1 .left) _ size (c .outcome-fields .ensures)
+    let sized = c .before .before .before .before in
+    let size = rw (c .before .before .size .given .1) at (sized .picture-size .ensures) in
+    answered-refused _ _ _ _ (sized .before .if1 .left) _ size (c .outcome-fields .ensures)
 
 returns-5 : tie.Need-returns-5
 returns-5 c =
     let call = c .before .before .before in
-    let size = rw (call .before .before .before .before .before .before .before .before .size2 .given .1) at (call .before .before .before .before .before .before .before .before .before .before .picture-size .ensures) in
-    let small = call .before .before .before .before .before .before .if2 .left in
+    let few = call .before .before .before .before in
+    let small = few .before .before in
+    let fits = small .before .before in
+    let sized = fits .before .before in
+    let size = rw (fits .size2 .given .1) at (sized .picture-size .ensures) in
     let space = call .before .decompress-arg2 .given .0 .1 in
-    answered-decoded _ _ _ _ (call .before .before .before .before .before .before .before .before .before .before .before .if1 .left) _ size small (call .before .before .before .before .if3 .left)
-    (decode-answered _ _ _ _ _ _ size small space (call .decompress .kept .1 .0) _ (c .before .before .bytes-per-pixel .ensures) (call .decompress .ensures) _ (c .outcome-fields2 .ensures))
+    let d = call .decompress in
+    answered-decoded _ _ _ _ (sized .before .if1 .left) _ size (small .if2 .left) (few .if3 .left)
+    (decode-answered _ _ _ _ _ _ size (small .if2 .left) space (d .kept .1 .0) _ (c .before .before .bytes-per-pixel .ensures) (d .ensures)
+    _ (c .outcome-fields2 .ensures))
 
 pub answer-spec : {M : Type 1} → statement M
 answer-spec =

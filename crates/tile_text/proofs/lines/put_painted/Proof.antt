@@ -10,7 +10,8 @@ returns : tie.Need-returns
 unfolding paintedLine ascii
 returns c =
     let pairs = c .before .before .before .before .before .before in
-    line-written (pairs .before .before .before .before .put-bytes .ensures) (pairs .put-pairs .ensures) (c .before .before .put-byte .ensures)
+    let key = pairs .before .before .before .before in
+    line-written (key .put-bytes .ensures) (pairs .put-pairs .ensures) (c .before .before .put-byte .ensures)
 
 pub put-painted-spec : {M : Type 1} → statement M
 put-painted-spec =

@@ -16,7 +16,9 @@ returns-2 c = c .bad .ensures ∙ sym (value-ended _ _ _ _ _ (c .before .before 
 
 returns-3 : tie.Need-returns-3
 unfolding numberStep
-returns-3 c = c .bad2 .ensures ∙ sym (value-none _ _ _ _ _ (c .before .before .before .if1 .left) (c .before .before .decimal-value .ensures) (c .before .if3 .taken))
+returns-3 c =
+    let digit = c .before .before in
+    c .bad2 .ensures ∙ sym (value-none _ _ _ _ _ (digit .before .if1 .left) (digit .decimal-value .ensures) (c .before .if3 .taken))
 
 number-digit-requires : tie.Need-number-digit-requires
 number-digit-requires c κs = (c .before .before .if3 .left, sym (c .before .goes-on .ensures) ∙ c .if4 .taken)
@@ -24,16 +26,20 @@ number-digit-requires c κs = (c .before .before .if3 .left, sym (c .before .goe
 returns-4 : tie.Need-returns-4
 unfolding numberStep
 returns-4 c =
-    let d = c .before .before .before .before .decimal-value .ensures in
-    let goes = sym (c .before .before .goes-on .ensures) ∙ c .before .if4 .taken in
-    c .number-digit .ensures ∙ sym (value-read _ _ _ _ _ (c .before .before .before .before .before .if1 .left) d (c .before .before .before .if3 .left) ∙ rw (goes, d))
+    let on = c .before .before in
+    let digit = on .before .before in
+    let d = digit .decimal-value .ensures in
+    c .number-digit .ensures
+    ∙ sym (value-read _ _ _ _ _ (digit .before .if1 .left) d (on .before .if3 .left) ∙ rw (sym (on .goes-on .ensures) ∙ c .before .if4 .taken, d))
 
 returns-5 : tie.Need-returns-5
 unfolding numberStep
 returns-5 c =
-    let d = c .before .before .before .before .decimal-value .ensures in
-    let stays = sym (c .before .before .goes-on .ensures) ∙ c .before .if4 .left in
-    c .bad3 .ensures ∙ sym (value-read _ _ _ _ _ (c .before .before .before .before .before .if1 .left) d (c .before .before .before .if3 .left) ∙ rw stays)
+    let on = c .before .before in
+    let digit = on .before .before in
+    c .bad3 .ensures
+    ∙ sym (value-read _ _ _ _ _ (digit .before .if1 .left) (digit .decimal-value .ensures) (on .before .if3 .left)
+    ∙ rw (sym (on .goes-on .ensures) ∙ c .before .if4 .left))
 
 pub number-step-spec : {M : Type 1} → statement M
 number-step-spec =

@@ -16,19 +16,24 @@ returns-2 c = sym (value-ended _ _ _ _ _ (c .before .if1 .taken) ∙ rw (c .if2 
 
 returns-3 : tie.Need-returns-3
 unfolding streamStep
-returns-3 c = c .bad2 .ensures ∙ sym (value-none _ _ _ _ _ (c .before .before .before .if1 .left) (c .before .before .hex-value .ensures) (c .before .if3 .taken))
+returns-3 c =
+    let digit = c .before .before in
+    c .bad2 .ensures ∙ sym (value-none _ _ _ _ _ (digit .before .if1 .left) (digit .hex-value .ensures) (c .before .if3 .taken))
 
 returns-4 : tie.Need-returns-4
 unfolding streamStep
 returns-4 c =
+    let test = c .before .before in
+    let digit = test .before in
     c .byte-read .ensures
-    ∙ sym (value-read _ _ _ _ _ (c .before .before .before .before .if1 .left) (c .before .before .before .hex-value .ensures) (c .before .before .if3 .left) ∙ rw (c .before .if4 .taken))
+    ∙ sym (value-read _ _ _ _ _ (digit .before .if1 .left) (digit .hex-value .ensures) (test .if3 .left) ∙ rw (c .before .if4 .taken))
 
 returns-5 : tie.Need-returns-5
 unfolding streamStep
 returns-5 c =
-    let d = c .before .before .hex-value .ensures in
-    sym (value-read _ _ _ _ _ (c .before .before .before .if1 .left) d (c .before .if3 .left) ∙ rw (c .if4 .left, ← d))
+    let digit = c .before .before in
+    let d = digit .hex-value .ensures in
+    sym (value-read _ _ _ _ _ (digit .before .if1 .left) d (c .before .if3 .left) ∙ rw (c .if4 .left, ← d))
 
 pub stream-step-spec : {M : Type 1} → statement M
 stream-step-spec =
