@@ -3,7 +3,7 @@ use mathlib.Core.Path.{_≡_, refl, _∙_, sym}
 use Prim.Native.Nat.{ℕ, _+_, _-_, _<_, _≤_}
 use native.Mathlib.Omega.{arith}
 use lib.Dec.{ltb, leb}
-use borrow.Author.Tests.{le-ltb, le-leb, lt-leb, ltb-false}
+use borrow.Author.Tests.{lt-ltb, le-ltb, le-leb, lt-leb, ltb-false}
 use Rattle.print.specs.Digits.{hexDigit}
 use Rattle.tile_text.specs.Parse.{digitAmong, decimalValue, hexValue}
 use Rattle.picture.proofs.Tests.{by-test}
@@ -25,9 +25,18 @@ module _ (b first last least : ℕ) where
       (λ low. by-test (λ v. v < 16 → Digit b first last least v) (ltb last b) (λ _ h. absurd (omega arith))
       (λ high h. record { low = ltb-false b first low; high = ltb-false last b high; value = refl }))
 
-  pub among : first ≤ b → b ≤ last → digitAmong b first last least ≡ b - first + least
+  pub under : b < first → digitAmong b first last least ≡ 16
   unfolding digitAmong
-  among low high = rw (le-ltb b first low, le-ltb last b high)
+  under h = rw (lt-ltb b first h)
+
+  module _ (low : first ≤ b) where
+    pub over : last < b → digitAmong b first last least ≡ 16
+    unfolding digitAmong
+    over h = rw (le-ltb b first low, lt-ltb last b h)
+
+    pub among : b ≤ last → digitAmong b first last least ≡ b - first + least
+    unfolding digitAmong
+    among h = rw (le-ltb b first low, le-ltb last b h)
 
 -- ---- decimal digits
 
@@ -53,8 +62,15 @@ hex-digit b =
     let e : b ≡ 87 + digitAmong b 97 102 10 = omega arith in
     e ∙ sym (hex-high (digitAmong b 97 102 10) (omega arith)))
 
-pub hex-value : (d : ℕ) → d < 16 → hexValue (hexDigit d) ≡ d
+pub hex-decimal : (b : ℕ) → b ≤ 57 → hexValue b ≡ decimalValue b
 unfolding hexValue
+hex-decimal b h = rw (le-leb b 57 h)
+
+pub hex-letter : (b : ℕ) → 57 < b → hexValue b ≡ digitAmong b 97 102 10
+unfolding hexValue
+hex-letter b h = rw (lt-leb b 57 h)
+
+pub hex-value : (d : ℕ) → d < 16 → hexValue (hexDigit d) ≡ d
 hex-value d h =
-    by-less d 10 (λ low. rw (hex-low d low, le-leb (48 + d) 57 (omega arith)) (decimal-value d low))
-    (λ high. rw (hex-high d high, lt-leb (87 + d) 57 (omega arith)) (among (87 + d) 97 102 10 (omega arith) (omega arith) ∙ omega arith))
+    by-less d 10 (λ low. rw (hex-low d low) (hex-decimal (48 + d) (omega arith) ∙ decimal-value d low))
+    (λ high. rw (hex-high d high) (hex-letter (87 + d) (omega arith) ∙ among (87 + d) 97 102 10 (omega arith) (omega arith) ∙ omega arith))
