@@ -1,7 +1,7 @@
 #!/usr/bin/env bash
 # Runs the tile program over many texts, and compares its answers with those that are due: small
-# tiles, every kind of departure from the grammar, the limits, and a text that comes one byte at a
-# time.
+# tiles, every kind of departure from the grammar, the limits, a text that comes one byte at a time,
+# input that can't be read and output that can't be written.
 #
 #   tests/tile_cases.sh [PROGRAM]
 #
@@ -159,6 +159,21 @@ while IFS= read -r -d '' -n 1 byte; do
   sleep 0.01
 done <"$room/good" | "$tile" >"$room/given" || echo "exit status $?" >>"$room/given"
 compare 'one byte at a time'
+
+# ---- what can't be read or written: a line on standard error, and no answer to a text that wasn't
+# read to its end
+{ "$tile" <"$room/good" || echo "exit status $?"; } >"$room/given" 2>&1
+compare 'nothing is said beside an answer'
+echo 'tile: cannot read standard input' >"$room/due"
+{ "$tile" </ || echo "exit status $?"; } >"$room/given" 2>&1
+compare 'a folder as standard input'
+{ "$tile" <&- || echo "exit status $?"; } >"$room/given" 2>&1
+compare 'standard input closed'
+echo 'tile: cannot write standard output' >"$room/due"
+{ "$tile" <"$room/good" >/dev/full || echo "exit status $?" >&2; } 2>"$room/given"
+compare 'standard output full'
+{ "$tile" <"$room/good" >&- || echo "exit status $?" >&2; } 2>"$room/given"
+compare 'standard output closed'
 
 passed=$(wc -l <"$room/passed") failed=$(wc -l <"$room/failed")
 echo "tile_cases: $passed passed, $failed failed"

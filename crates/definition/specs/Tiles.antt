@@ -1,8 +1,9 @@
 -- Tiles with what they paint: the definition, run on each of them. Written as rows of stream, refusal (number and both values; 0 0 0:
 -- none), format (0 where refused), pixels painted, orders completed, and painted bytes.
-use mathlib.Core.Path.{_≡_, refl}
+use mathlib.Core.Path.{_≡_, refl, ap}
 use mathlib.Core.List.{List, [], _∷_, map}
 use Prim.Native.Nat.{ℕ}
+use lib.ListN.{getD}
 use Rattle.picture.specs.Pixels
 use Rattle.definition.specs.Orders
 use Rattle.picture.specs.Sizes
@@ -26,10 +27,14 @@ tile stream r format pixels orders painted =
 abbrev ok : Refusal
 ok = refusal 0 0 0
 
-pub tiles : List Tile
+-- two background runs, between which a foreground pixel is inserted
+abbrev pub twoRuns : Tile
+twoRuns = tile (0x02 ∷ 0x02 ∷ []) ok 8 4 2 (0x00 ∷ 0x00 ∷ 0xFF ∷ 0x00 ∷ [])
+
+unfoldable pub tiles : List Tile
 tiles =
     tile [] ok 8 0 0 []
-    ∷ tile (0x02 ∷ 0x02 ∷ []) ok 8 4 2 (0x00 ∷ 0x00 ∷ 0xFF ∷ 0x00 ∷ [])
+    ∷ twoRuns
     ∷ tile (0x04 ∷ 0x01 ∷ []) ok 8 5 2 (0x00 ∷ 0x00 ∷ 0x00 ∷ 0x00 ∷ 0x00 ∷ [])
     ∷ tile (0x26 ∷ []) ok 8 6 1 (0xFF ∷ 0xFF ∷ 0xFF ∷ 0xFF ∷ 0xFF ∷ 0xFF ∷ [])
     ∷ tile (0x24 ∷ 0x22 ∷ []) ok 8 6 2 (0xFF ∷ 0xFF ∷ 0xFF ∷ 0xFF ∷ 0x00 ∷ 0x00 ∷ [])
@@ -47,7 +52,7 @@ tiles =
     ∷ []
 
 -- what the definition makes of a tile's stream
-painting : Tile → Result → Tile
+unfoldable pub painting : Tile → Result → Tile
 painting t r =
     record {
       bpp = t .bpp;
@@ -58,7 +63,7 @@ painting t r =
       painted = Pixels.bytesOf (r .bytes) (r .painted);
     }
 
-pub decoded : Tile → Tile
+unfoldable pub decoded : Tile → Tile
 decoded t = painting t (result (t .stream) (t .bpp) (t .width) (t .height))
 
 pub tiles-decoded : map decoded tiles ≡ tiles
@@ -135,3 +140,7 @@ unfolding tiles decoded painting
     Decode.ofChecked
     Decode.result
 tiles-decoded = refl
+
+pub two-runs-decoded : decoded twoRuns ≡ twoRuns
+unfolding tiles
+two-runs-decoded = ap (λ (ts : List Tile). getD ts 1 twoRuns) tiles-decoded

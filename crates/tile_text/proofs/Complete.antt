@@ -1,5 +1,5 @@
 -- Every tile's text is read whole: the state after `textOf w h b stream` is on line 4 with these numbers. Assumes nothing.
-use mathlib.Core.Path.{_≡_, refl, _∙_, ap}
+use mathlib.Core.Path.{_≡_, refl, _∙_, ap, sym}
 use mathlib.Core.List.{List, [], _∷_, _++_}
 use mathlib.Core.Bool.{true, false}
 use Prim.Native.Nat.{ℕ, zero, suc, _+_, _*_, _/_, _%_, _^_, _<_}
@@ -7,13 +7,15 @@ use native.Mathlib.Omega.{arith}
 use native.Mathlib.Nat.{pow-suc}
 use borrow.Author.Tests.{ne-eqb, lt-ltb}
 use Rattle.picture.specs.Pixels.{pick}
-use Rattle.tile_text.specs.Text.{decimalIn, decimal, hexDigit, hexPairs, widthKey, heightKey, bppKey, streamKey, line, textOf, Bytes, Tile}
+use Rattle.print.specs.Text.{ascii, line}
+use Rattle.print.specs.Digits.{decimalIn, decimal, hexDigit, hexPairs}
+use Rattle.tile_text.specs.Text.{textOf, Bytes, Tile}
 use Rattle.tile_text.specs.Parse.{keys, keyByte, start, withValue, endNumber, countMore, byteRead, goesOn, numberDigit, numberStep, streamStep, keyStep, step, fed}
 use Rattle.tile_text.specs.declared.parser.Parser.{Parser}
-use Rattle.tile_text.proofs.Tests.{by-less}
-use Rattle.tile_text.proofs.Digits.{decimal-value, hex-value, not-line-feed}
-use Rattle.tile_text.proofs.Printed.{in-small, in-more}
-use Rattle.tile_text.proofs.Steps.{step-number, step-stream}
+use Rattle.print.proofs.Tests.{by-less}
+use Rattle.print.proofs.Printed.{in-small, in-more, not-line-feed}
+use Rattle.tile_text.proofs.Digits.{decimal-value, hex-value}
+use Rattle.tile_text.proofs.Steps.{step-number, step-stream, value-ended, value-read}
 use Rattle.tile_text.proofs.Chunks.{fed-append}
 
 -- one text after the other
@@ -27,12 +29,11 @@ digit-read : (p : Parser) (d : ℕ) → keyByte (p .line) (p .place) ≡ 0 → p
 unfolding numberStep
 digit-read p d k l g h =
     let other : 48 + d ≡ 10 → ⊥ = (λ e. omega arith) in
-    step-number p (48 + d) k l
-    ∙ rw (ne-eqb (48 + d) 10 other, decimal-value d h, lt-ltb d 16 (omega arith), g)
+    step-number p (48 + d) k l ∙ value-read _ _ _ _ _ other (sym (decimal-value d h)) (omega arith) ∙ rw (g, decimal-value d h)
 
 line-feed-read : (p : Parser) → keyByte (p .line) (p .place) ≡ 0 → p .line < 3 → p .begun ≡ true → step p 10 ≡ endNumber p
 unfolding numberStep
-line-feed-read p k l begun = step-number p 10 k l ∙ rw begun
+line-feed-read p k l begun = step-number p 10 k l ∙ value-ended _ _ _ _ _ refl ∙ rw begun
 
 module _ (p : Parser) (k : keyByte (p .line) (p .place) ≡ 0) (l : p .line < 3) (none : p .begun ≡ false) where
   first-digit : (d : ℕ) → d < 10 → step p (48 + d) ≡ withValue d p
@@ -85,10 +86,10 @@ stream-digit : (p : Parser) (d : ℕ) → keyByte (p .line) (p .place) ≡ 0 →
     → step p (hexDigit d) ≡ pick (p .begun) (byteRead p) (withValue d p)
 unfolding streamStep
 stream-digit p d k l h =
-    step-stream p (hexDigit d) k l ∙ rw (ne-eqb (hexDigit d) 10 (not-line-feed d), hex-value d h, lt-ltb d 16 h)
+    step-stream p (hexDigit d) k l ∙ value-read _ _ _ _ _ (not-line-feed d) (sym (hex-value d h)) h ∙ rw (hex-value d h)
 
 stream-key-over : keyByte 3 7 ≡ 0
-unfolding keyByte keys streamKey
+unfolding keyByte keys ascii
 stream-key-over = refl
 
 module _ (w h b : ℕ) where
@@ -101,24 +102,24 @@ module _ (w h b : ℕ) where
       ∙ ap (λ (p : Parser). fed p (hexPairs xs)) (stream-digit (withValue (x / 16) (atPlace 3 7 w h b n)) (x % 16) stream-key-over refl (omega arith))
       ∙ pairs-read _ xs (g .1)
 
-  stream-read : (s : List ℕ) → Bytes s → fed (atPlace 3 0 w h b 0) (line streamKey (hexPairs s)) ≡ atPlace 4 7 w h b (countAll 0 s)
-  unfolding line fed step streamStep keyStep keyByte keys streamKey
+  stream-read : (s : List ℕ) → Bytes s → fed (atPlace 3 0 w h b 0) (line (ascii "stream=") (hexPairs s)) ≡ atPlace 4 7 w h b (countAll 0 s)
+  unfolding line fed step streamStep keyStep keyByte keys ascii
   stream-read s g =
       let q = atPlace 3 0 w h b 0 in
-      then q (streamKey ++ hexPairs s) (10 ∷ []) (then q streamKey (hexPairs s) refl (pairs-read 0 s g))
-      (step-stream (atPlace 3 7 w h b (countAll 0 s)) 10 stream-key-over refl)
+      then q (ascii "stream=" ++ hexPairs s) (10 ∷ []) (then q (ascii "stream=") (hexPairs s) refl (pairs-read 0 s g))
+      (step-stream (atPlace 3 7 w h b (countAll 0 s)) 10 stream-key-over refl ∙ value-ended _ _ _ _ _ refl)
 
 -- ---- the text
 
 pub text-read : (w h b : ℕ) (s : List ℕ) → Tile w h b s → fed start (textOf w h b s) ≡ atPlace 4 7 w h b (countAll 0 s)
-unfolding textOf fed step keyStep keyByte keys widthKey heightKey bppKey endNumber
+unfolding textOf fed step keyStep keyByte keys endNumber ascii
 text-read w h b s t =
-    let width = line widthKey (decimal w) in
-    let height = line heightKey (decimal h) in
-    let depth = line bppKey (decimal b) in
-    then start (width ++ height ++ depth) (line streamKey (hexPairs s))
+    let width = line (ascii "width=") (decimal w) in
+    let height = line (ascii "height=") (decimal h) in
+    let depth = line (ascii "bpp=") (decimal b) in
+    then start (width ++ height ++ depth) (line (ascii "stream=") (hexPairs s))
     (then start (width ++ height) depth
-    (then start width height (line-read widthKey start _ refl refl (omega arith) refl w (t .width))
-    (line-read heightKey (atPlace 1 0 w 0 0 0) _ refl refl (omega arith) refl h (t .height)))
-    (line-read bppKey (atPlace 2 0 w h 0 0) _ refl refl (omega arith) refl b (t .bpp)))
+    (then start width height (line-read (ascii "width=") start _ refl refl (omega arith) refl w (t .width))
+    (line-read (ascii "height=") (atPlace 1 0 w 0 0 0) _ refl refl (omega arith) refl h (t .height)))
+    (line-read (ascii "bpp=") (atPlace 2 0 w h 0 0) _ refl refl (omega arith) refl b (t .bpp)))
     (stream-read w h b s (t .bytes))

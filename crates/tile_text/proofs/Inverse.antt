@@ -17,7 +17,7 @@ use Rattle.tile_text.specs.Answer.{badTileText, limited, answerOf, Answe
 use Rattle.tile_text.specs.Parse.{start, fed, fedInto}
 use Rattle.tile_text.specs.Reply.{decoded, replyOf, Replies, RepliesTo}
 use Rattle.tile_text.specs.declared.parser.Parser.{Parser}
-use Rattle.tile_text.proofs.Tests.{by-less}
+use Rattle.print.proofs.Tests.{by-less}
 use Rattle.tile_text.proofs.Chunks.{joined, fedChunks, intoChunks, chunks-fed, chunks-into}
 use Rattle.tile_text.proofs.Complete.{text-read, atPlace, countAll}
 use Rattle.tile_text.proofs.Sound.{inKey, inNumber, inStream, atEnd, Kept, Reads, failed, going, text-reads}

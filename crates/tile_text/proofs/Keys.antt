@@ -8,9 +8,10 @@ use native.Mathlib.Omega.{arith}
 use lib.Dec.{T, ltb, eqb, ltb→lt, eqb→eq}
 use lib.ListN.{length, getD, take, List·getD-eq-default}
 use lib.Seq.{take-suc, take-all}
-use Rattle.tile_text.specs.Text.{widthKey, heightKey, bppKey, streamKey}
+use Rattle.print.specs.Text.{ascii}
 use Rattle.tile_text.specs.Parse.{keys, keyByte}
-use Rattle.tile_text.proofs.Tests.{by-less, below, at}
+use Rattle.print.proofs.Tests.{by-less}
+use Rattle.tile_text.proofs.Tests.{below, at}
 
 abbrev pub keyOf : ℕ → List ℕ
 keyOf l = getD keys l []
@@ -18,7 +19,7 @@ keyOf l = getD keys l []
 -- ---- a key and its end
 
 key-length : (l : ℕ) → length (keyOf l) ≤ 7
-unfolding keys widthKey heightKey bppKey streamKey
+unfolding keys ascii
 key-length zero = omega arith
 key-length (suc zero) = omega arith
 key-length (suc (suc zero)) = omega arith
@@ -47,11 +48,11 @@ none-zero : (key : List ℕ) (i : ℕ) → T (below (λ k. ltb 0 (getD key k 0))
 none-zero key i t h = ltb→lt 0 (getD key i 0) (at (λ k. ltb 0 (getD key k 0)) (length key) t i h)
 
 key-byte : (l i : ℕ) → i < length (keyOf l) → 0 < keyByte l i
-unfolding keyByte keys widthKey heightKey bppKey streamKey
-key-byte zero i h = none-zero widthKey i tt h
-key-byte (suc zero) i h = none-zero heightKey i tt h
-key-byte (suc (suc zero)) i h = none-zero bppKey i tt h
-key-byte (suc (suc (suc zero))) i h = none-zero streamKey i tt h
+unfolding keyByte keys ascii
+key-byte zero i h = none-zero (ascii "width=") i tt h
+key-byte (suc zero) i h = none-zero (ascii "height=") i tt h
+key-byte (suc (suc zero)) i h = none-zero (ascii "bpp=") i tt h
+key-byte (suc (suc (suc zero))) i h = none-zero (ascii "stream=") i tt h
 key-byte (suc (suc (suc (suc l)))) i h = absurd (omega arith)
 
 -- where a key is over, all of it is read
@@ -67,15 +68,13 @@ key-more l i h = rw add-one (take-suc (keyOf l) i 0 (in-key l i h))
 -- ---- the code's table
 
 abbrev table : List ℕ
-table =
-    119 ∷ 105 ∷ 100 ∷ 116 ∷ 104 ∷ 61 ∷ 0 ∷ 104 ∷ 101 ∷ 105 ∷ 103 ∷ 104 ∷ 116 ∷ 61 ∷ 98 ∷ 112 ∷ 112 ∷ 61 ∷ 0 ∷ 0 ∷ 0 ∷ 115 ∷ 116
-    ∷ 114 ∷ 101 ∷ 97 ∷ 109 ∷ 61 ∷ []
+table = ascii "width=" ++ (0 ∷ []) ++ ascii "height=" ++ ascii "bpp=" ++ (0 ∷ 0 ∷ 0 ∷ []) ++ ascii "stream="
 
 abbrev right : ℕ → Bool
 right k = eqb (getD table k 0) (keyByte (k / 7) (k % 7))
 
 in-table : (k : ℕ) → k < 28 → T (right k)
-unfolding keyByte keys widthKey heightKey bppKey streamKey
+unfolding keyByte keys ascii
 in-table k h = at right 28 tt k h
 
 pub key-in-table : (l i : ℕ) → l < 4 → i < 7 → getD table (l * 7 + i) 0 ≡ keyByte l i

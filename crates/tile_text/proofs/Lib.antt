@@ -1,7 +1,5 @@
 pub mod Tests
 pub mod Digits
-pub mod Printed
-pub mod Writing
 pub mod Replying
 pub mod Keys
 pub mod Steps

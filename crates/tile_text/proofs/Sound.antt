@@ -10,14 +10,16 @@ use lib.ListN.{length, getD, take, set, length-append, length-set, List·getD-ap
 use lib.Seq.{getD-set-same, getD-set-other, getD-append-seam}
 use borrow.Author.Tests.{ltb-true, ltb-false, eqb-true, eqb-false}
 use Rattle.picture.specs.Pixels.{pick}
-use Rattle.tile_text.specs.Text.{decimal, hexDigit, hexPairs, widthKey, heightKey, bppKey, streamKey, line, textOf, Bytes}
+use Rattle.print.specs.Text.{ascii, line}
+use Rattle.print.specs.Digits.{decimal, hexDigit, hexPairs}
+use Rattle.tile_text.specs.Text.{textOf, Bytes}
 use Rattle.tile_text.specs.Parse.{keys, keyByte, decimalValue, hexValue, start, onLine, bad, keyRead, withValue, nextLine, endNumber, countMore, byteRead, goesOn, numberDigit, step, endsByte, stored, fed, fedInto}
 use Rattle.tile_text.specs.declared.parser.Parser.{Parser}
 use Rattle.picture.proofs.Tests.{by-test}
-use Rattle.tile_text.proofs.Tests.{by-less}
+use Rattle.print.proofs.Tests.{by-less}
 use Rattle.tile_text.proofs.Keys.{keyOf, key-over, key-more}
 use Rattle.tile_text.proofs.Digits.{decimal-digit, hex-digit}
-use Rattle.tile_text.proofs.Printed.{decimal-small, decimal-more, pairs-append}
+use Rattle.print.proofs.Printed.{decimal-small, decimal-more, pairs-append}
 use Rattle.tile_text.proofs.Steps.{clash, going-on, step-key, step-number, step-stream, step-after, key-cases, number-cases, stream-cases, ends-elsewhere, ends-first, ends-second, stored-in, stored-past, stored-not}
 
 -- ---- what is read
@@ -25,9 +27,10 @@ use Rattle.tile_text.proofs.Steps.{clash, going-on, step-key, step-numb
 -- the lines before line l
 unfoldable pub linesBefore : ℕ → ℕ → ℕ → ℕ → List ℕ
 linesBefore zero w h b = []
-linesBefore (suc zero) w h b = line widthKey (decimal w)
-linesBefore (suc (suc zero)) w h b = line widthKey (decimal w) ++ line heightKey (decimal h)
-linesBefore (suc (suc (suc l))) w h b = (line widthKey (decimal w) ++ line heightKey (decimal h)) ++ line bppKey (decimal b)
+linesBefore (suc zero) w h b = line (ascii "width=") (decimal w)
+linesBefore (suc (suc zero)) w h b = line (ascii "width=") (decimal w) ++ line (ascii "height=") (decimal h)
+linesBefore (suc (suc (suc l))) w h b =
+    line (ascii "width=") (decimal w) ++ line (ascii "height=") (decimal h) ++ line (ascii "bpp=") (decimal b)
 
 abbrev pub front : ℕ → Parser → List ℕ
 front l p = linesBefore l (p .width) (p .height) (p .bpp)
@@ -46,7 +49,7 @@ pub data Seen (t : List ℕ) (p : Parser) (s : List ℕ) : Type 0 where
   inNumber : p .line < 3 → keyByte (p .line) (p .place) ≡ 0 → (p .begun ≡ true → p .value < 100_000_000) → s ≡ []
       → t ≡ front (p .line) p ++ (keyOf (p .line) ++ digits p) → Seen t p s
   inStream : p .line ≡ 3 → keyByte (p .line) (p .place) ≡ 0 → (p .begun ≡ true → p .value < 16)
-      → t ≡ front 3 p ++ (streamKey ++ (hexPairs s ++ firstDigit p)) → Seen t p s
+      → t ≡ front 3 p ++ (ascii "stream=" ++ (hexPairs s ++ firstDigit p)) → Seen t p s
   atEnd : p .line ≡ 4 → t ≡ textOf (p .width) (p .height) (p .bpp) s → Seen t p s
 
 -- what holds of the numbers and of the stream's array all along
@@ -76,9 +79,9 @@ line-closed : (f key ds : List ℕ) → (f ++ (key ++ ds)) ++ (10 ∷ []) ≡ (f
 unfolding line
 line-closed f key ds = simp (append-assoc, append-nil)
 
-text-closed : (w h b : ℕ) (s : List ℕ) → (linesBefore 3 w h b ++ (streamKey ++ (hexPairs s ++ []))) ++ (10 ∷ []) ≡ textOf w h b s
-unfolding linesBefore textOf line
-text-closed w h b s = simp (append-assoc, append-nil)
+text-closed : (w h b : ℕ) (s : List ℕ) → (linesBefore 3 w h b ++ (ascii "stream=" ++ (hexPairs s ++ []))) ++ (10 ∷ []) ≡ textOf w h b s
+unfolding linesBefore textOf
+text-closed w h b s = line-closed (linesBefore 3 w h b) (ascii "stream=") (hexPairs s ++ []) ∙ simp append-nil
 
 -- a number with one digit more, as `numberDigit` has it
 record Grown (v : ℕ) (before after : List ℕ) : Type 0 where
@@ -228,7 +231,7 @@ module _ (t : List ℕ) (p : Parser) (s xs : List ℕ) (b : ℕ) (kept : Kept p 
         (λ high. subst (λ (ys : List ℕ). Kept (byteRead p) (s ++ (x ∷ [])) ys) (stored-past p b xs e high) (kept-more xs (kept .space) (held-past high)))
 
   byte-ends : p .line ≡ 3 → keyByte (p .line) (p .place) ≡ 0 → p .value < 16 → p .begun ≡ true → hexValue b < 16
-      → t ≡ front 3 p ++ (streamKey ++ (hexPairs s ++ (hexDigit (p .value) ∷ []))) → More (byteRead p)
+      → t ≡ front 3 p ++ (ascii "stream=" ++ (hexPairs s ++ (hexDigit (p .value) ∷ []))) → More (byteRead p)
   unfolding byteRead
   byte-ends l over small begun digit e =
       let x : ℕ = p .value % 16 * 16 + hexValue b in
@@ -236,12 +239,12 @@ module _ (t : List ℕ) (p : Parser) (s xs : List ℕ) (b : ℕ) (kept : Kept p 
       going (s ++ (x ∷ [])) (kept-stored x byte (ends-second p b l begun digit) refl)
       (inStream l over (λ no. clash no refl)
       (ap (λ (u : List ℕ). u ++ (b ∷ [])) e
-      ∙ longer (front 3 p) streamKey (hexPairs s ++ (hexDigit (p .value) ∷ [])) _ b
+      ∙ longer (front 3 p) (ascii "stream=") (hexPairs s ++ (hexDigit (p .value) ∷ [])) _ b
       (append-nil (hexPairs (s ++ (x ∷ []))) ∙ pairs-grown s (p .value) (hexValue b) small digit
       ∙ ap (λ (c : ℕ). (hexPairs s ++ (hexDigit (p .value) ∷ [])) ++ (c ∷ [])) (sym (hex-digit b digit)))))
 
   from-stream : p .line ≡ 3 → keyByte (p .line) (p .place) ≡ 0 → (p .begun ≡ true → p .value < 16)
-      → t ≡ front 3 p ++ (streamKey ++ (hexPairs s ++ firstDigit p)) → More (step p b)
+      → t ≡ front 3 p ++ (ascii "stream=" ++ (hexPairs s ++ firstDigit p)) → More (step p b)
   from-stream l over small e =
       rw (step-stream p b over l)
       (stream-cases p b More
@@ -251,7 +254,7 @@ module _ (t : List ℕ) (p : Parser) (s xs : List ℕ) (b : ℕ) (kept : Kept p 
       (λ digit none. goes (withValue (hexValue b) p) (ends-first p b none) (kept .width) (kept .height) (kept .bpp) refl
       (inStream l over (λ _. digit)
       (ap (λ (u : List ℕ). u ++ (b ∷ [])) (rw none at e)
-      ∙ longer (front 3 p) streamKey (hexPairs s ++ []) _ b
+      ∙ longer (front 3 p) (ascii "stream=") (hexPairs s ++ []) _ b
       (rw append-nil (ap (λ (x : ℕ). hexPairs s ++ (x ∷ [])) (sym (hex-digit b digit)))))))
       (fails _ p _))
 

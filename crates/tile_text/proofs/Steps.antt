@@ -7,7 +7,7 @@ use native.Mathlib.Omega.{arith}
 use lib.Dec.{ltb, eqb}
 use lib.ListN.{set}
 use borrow.Author.Tests.{eq-eqb, ne-eqb, lt-ltb, le-ltb, ltb-true, eqb-true, eqb-false}
-use Rattle.tile_text.specs.Parse.{keyByte, decimalValue, hexValue, onLine, bad, keyRead, withValue, endNumber, byteRead, goesOn, numberDigit, numberStep, streamStep, keyStep, step, endsByte, stored}
+use Rattle.tile_text.specs.Parse.{keyByte, decimalValue, hexValue, onLine, bad, keyRead, withValue, endNumber, byteRead, goesOn, numberDigit, valueStep, numberStep, streamStep, keyStep, step, endsByte, stored}
 use Rattle.tile_text.specs.declared.parser.Parser.{Parser}
 use Rattle.picture.proofs.Tests.{by-test}
 use Rattle.tile_text.proofs.Tests.{apart}
@@ -22,6 +22,27 @@ unfolding goesOn
 going-on p begun g =
     by-test (λ u. u ≡ true → (0 < p .value) × (p .value < 10_000_000)) (eqb (p .value) 0) (λ _ no. clash no refl)
     (λ other less. (omega (arith, eqb-false (p .value) 0 other), ltb-true _ _ less)) (simp begun at g)
+
+-- ---- the byte b after a key, of value d as a digit
+
+module _ (p : Parser) (b d : ℕ) (ended read : Parser) where
+  pub value-ended : b ≡ 10 → valueStep p b d ended read ≡ ended
+  unfolding valueStep
+  value-ended e = rw (eq-eqb _ _ e)
+
+  module _ (other : b ≡ 10 → ⊥) {c : ℕ} (same : c ≡ d) where
+    pub value-none : 16 ≤ c → valueStep p b d ended read ≡ bad p
+    unfolding valueStep
+    value-none h = rw (ne-eqb _ _ other, ← same, le-ltb _ _ h)
+
+    pub value-read : c < 16 → valueStep p b d ended read ≡ read
+    unfolding valueStep
+    value-read h = rw (ne-eqb _ _ other, ← same, lt-ltb _ _ h)
+
+  value-cases : (Q : Parser → Type 0) → (b ≡ 10 → Q ended) → (d < 16 → Q read) → Q (bad p) → Q (valueStep p b d ended read)
+  unfolding valueStep
+  value-cases Q f g h =
+      by-test Q (eqb b 10) (λ t. f (eqb-true _ _ t)) (λ _. by-test Q (ltb d 16) (λ t. g (ltb-true _ _ t)) (λ _. h))
 
 module _ (p : Parser) (b : ℕ) where
   -- ---- the state
@@ -52,16 +73,14 @@ module _ (p : Parser) (b : ℕ) where
       → (decimalValue b < 16 → goesOn p ≡ true → Q (numberDigit p (decimalValue b))) → Q (bad p) → Q (numberStep p b)
   unfolding numberStep
   number-cases Q f g h =
-      by-test Q (eqb b 10) (λ t. by-test Q (p .begun) (f (eqb-true _ _ t)) (λ _. h))
-      (λ _. by-test Q (ltb (decimalValue b) 16) (λ t. by-test Q (goesOn p) (g (ltb-true _ _ t)) (λ _. h)) (λ _. h))
+      value-cases p b _ _ _ Q (λ e. by-test Q (p .begun) (f e) (λ _. h)) (λ d. by-test Q (goesOn p) (g d) (λ _. h)) h
 
   pub stream-cases : (Q : Parser → Type 0) → (b ≡ 10 → p .begun ≡ false → Q (onLine 4 p))
       → (hexValue b < 16 → p .begun ≡ true → Q (byteRead p)) → (hexValue b < 16 → p .begun ≡ false → Q (withValue (hexValue b) p))
       → Q (bad p) → Q (streamStep p b)
   unfolding streamStep
   stream-cases Q f g h k =
-      by-test Q (eqb b 10) (λ t. by-test Q (p .begun) (λ _. k) (f (eqb-true _ _ t)))
-      (λ _. by-test Q (ltb (hexValue b) 16) (λ t. by-test Q (p .begun) (g (ltb-true _ _ t)) (h (ltb-true _ _ t))) (λ _. k))
+      value-cases p b _ _ _ Q (λ e. by-test Q (p .begun) (λ _. k) (f e)) (λ d. by-test Q (p .begun) (g d) (h d)) k
 
   -- ---- which digits end a byte
 

@@ -1,18 +1,15 @@
--- Tests: by the order of two numbers, and a fact of every number below a bound by one test that antt computes. Assumes nothing.
+-- Tests: a fact of every number below a bound by one test that antt computes. Assumes nothing.
 use mathlib.Core.Path.{_≡_, subst}
 use mathlib.Core.Bool.{Bool, true, false}
-use Prim.Native.Nat.{ℕ, zero, suc, _<_, _≤_}
+use Prim.Native.Nat.{ℕ, zero, suc, _<_}
 use native.Mathlib.Omega.{arith}
-use native.Mathlib.Decide.{decLt}
 use lib.Dec.{T}
 use Rattle.picture.specs.Pixels.{pick}
+use Rattle.print.proofs.Tests.{by-less}
 
 -- what is so by `cc` where two constructors that differ are equal
 pub apart : {A : Type 0} → _≡_ {A = ℕ} 0 1 → A
 apart e = absurd (omega arith)
-
-pub by-less : {A : Type 0} (m n : ℕ) → (m < n → A) → (n ≤ m → A) → A
-by-less m n f g = elim (decLt m n) [ yes h ↦ f h | no h ↦ g (omega arith) ]
 
 -- the test passes at each number below n
 abbrev pub below : (ℕ → Bool) → ℕ → Bool

@@ -6,11 +6,14 @@ use native.Mathlib.Omega.{arith}
 use lib.ListN.{length, drop}
 use lib.Seq.{drop-append-seam}
 use Rattle.definition.specs.Decode.{Result}
-use Rattle.tile_text.specs.Text.{decimal, hexDigit, hexPairs, widthKey, heightKey, bppKey, streamKey, line, textOf, Bytes, Tile}
+use Rattle.print.specs.Text.{ascii, line}
+use Rattle.print.specs.Digits.{decimal, hexDigit, hexPairs}
+use Rattle.tile_text.specs.Text.{textOf, Bytes, Tile}
 use Rattle.tile_text.specs.Answer.{answerOf, Answers, tile, noTile}
 use Rattle.tile_text.specs.Parse.{hexValue}
 use Rattle.tile_text.specs.declared.parser.Parser.{Parser}
-use Rattle.tile_text.proofs.Digits.{hex-value, not-line-feed}
+use Rattle.print.proofs.Printed.{not-line-feed}
+use Rattle.tile_text.proofs.Digits.{hex-value}
 use Rattle.tile_text.proofs.Inverse.{complete}
 
 same-digit : (c d : ℕ) → c < 16 → d < 16 → hexDigit c ≡ hexDigit d → c ≡ d
@@ -37,8 +40,10 @@ after-same a b c e = sym (drop-append-seam a b) ∙ ap (drop (length a)) e ∙ d
 stream-unique : (w h b : ℕ) (s u : List ℕ) → Bytes s → Bytes u → textOf w h b s ≡ textOf w h b u → s ≡ u
 unfolding textOf line
 stream-unique w h b s u f g e =
-    let same = after-same (line widthKey (decimal w) ++ line heightKey (decimal h) ++ line bppKey (decimal b)) _ _ e in
-    pairs-unique s u f g (after-same streamKey _ _ (sym (append-assoc streamKey (hexPairs s) (10 ∷ [])) ∙ same ∙ append-assoc streamKey (hexPairs u) (10 ∷ [])))
+    let same = after-same (line (ascii "width=") (decimal w) ++ line (ascii "height=") (decimal h) ++ line (ascii "bpp=") (decimal b)) _ _ e in
+    let key = ascii "stream=" in
+    let values = sym (append-assoc key (hexPairs s) (10 ∷ [])) ∙ same ∙ append-assoc key (hexPairs u) (10 ∷ []) in
+    pairs-unique s u f g (after-same key _ _ values)
 
 tile-unique : (w h b w' h' b' : ℕ) (s u : List ℕ) → Tile w h b s → Tile w' h' b' u → textOf w h b s ≡ textOf w' h' b' u
     → answerOf w h b s ≡ answerOf w' h' b' u

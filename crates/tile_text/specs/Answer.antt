@@ -2,14 +2,16 @@
 -- lines in which that is printed. `Answers` is what the program is for: a text that is some tile's has that tile's answer, and one that
 -- is no tile's is refused.
 use mathlib.Core.Path.{_≡_}
-use mathlib.Core.List.{List, [], _∷_, _++_}
+use mathlib.Core.List.{List, [], _++_}
 use Prim.Native.Nat.{ℕ}
 use lib.Dec.{ltb, eqb}
 use lib.ListN.{length}
 use Rattle.picture.specs.Pixels.{pick, bytesOf}
 use Rattle.picture.specs.Sizes.{Refusal, refusal, checked, Size, bytes, refused, sizeOf}
-use Rattle.definition.specs.Decode.{Result, result}
-use Rattle.tile_text.specs.Text.{decimal, hexPairs, line, textOf, Tile}
+use Rattle.definition.specs.Decode.{Result, result, Summary, summaryOf}
+use Rattle.print.specs.Text.{ascii, line}
+use Rattle.print.specs.Digits.{decimal, hexPairs}
+use Rattle.tile_text.specs.Text.{textOf, Tile}
 
 -- a refusal that decodes nothing: the counts are 0, and no byte is painted
 unfoldable pub refusedWith : Refusal → Result
@@ -35,39 +37,27 @@ answerOf w h b stream = limited (sizeOf (checked b w h)) (length stream) (result
 
 -- `Rgb` and the bits of a pixel, as in `Rgb8`; on a refusal, where the format is 0, `none`
 unfoldable pub formatName : ℕ → List ℕ
-formatName k = pick (eqb k 0) (110 ∷ 111 ∷ 110 ∷ 101 ∷ []) (82 ∷ 103 ∷ 98 ∷ decimal k)
+formatName k = pick (eqb k 0) (ascii "none") (ascii "Rgb" ++ decimal k)
 
--- `format=`, `refusal=`, `first=`, `second=`, `orders=`, `pixels=`, `painted=`
-unfoldable pub formatKey : List ℕ
-formatKey = 102 ∷ 111 ∷ 114 ∷ 109 ∷ 97 ∷ 116 ∷ 61 ∷ []
+unfoldable pub formatLine : ℕ → List ℕ
+formatLine k = line (ascii "format=") (formatName k)
 
-unfoldable pub refusalKey : List ℕ
-refusalKey = 114 ∷ 101 ∷ 102 ∷ 117 ∷ 115 ∷ 97 ∷ 108 ∷ 61 ∷ []
+unfoldable pub paintedLine : List ℕ → List ℕ
+paintedLine xs = line (ascii "painted=") (hexPairs xs)
 
-unfoldable pub firstKey : List ℕ
-firstKey = 102 ∷ 105 ∷ 114 ∷ 115 ∷ 116 ∷ 61 ∷ []
-
-unfoldable pub secondKey : List ℕ
-secondKey = 115 ∷ 101 ∷ 99 ∷ 111 ∷ 110 ∷ 100 ∷ 61 ∷ []
-
-unfoldable pub ordersKey : List ℕ
-ordersKey = 111 ∷ 114 ∷ 100 ∷ 101 ∷ 114 ∷ 115 ∷ 61 ∷ []
-
-unfoldable pub pixelsKey : List ℕ
-pixelsKey = 112 ∷ 105 ∷ 120 ∷ 101 ∷ 108 ∷ 115 ∷ 61 ∷ []
-
-unfoldable pub paintedKey : List ℕ
-paintedKey = 112 ∷ 97 ∷ 105 ∷ 110 ∷ 116 ∷ 101 ∷ 100 ∷ 61 ∷ []
+-- the lines of a report, and of the painted bytes
+unfoldable pub linesWith : Summary → List ℕ → List ℕ
+linesWith s painted =
+    formatLine (s .format)
+    ++ line (ascii "refusal=") (decimal (s .refusal .number))
+    ++ line (ascii "first=") (decimal (s .refusal .first))
+    ++ line (ascii "second=") (decimal (s .refusal .second))
+    ++ line (ascii "orders=") (decimal (s .orders))
+    ++ line (ascii "pixels=") (decimal (s .pixels))
+    ++ paintedLine painted
 
 unfoldable pub linesOf : Result → List ℕ
-linesOf e =
-    line formatKey (formatName (e .format))
-    ++ line refusalKey (decimal (e .refusal .number))
-    ++ line firstKey (decimal (e .refusal .first))
-    ++ line secondKey (decimal (e .refusal .second))
-    ++ line ordersKey (decimal (e .orders))
-    ++ line pixelsKey (decimal (length (e .painted)))
-    ++ line paintedKey (hexPairs (bytesOf (e .bytes) (e .painted)))
+linesOf e = linesWith (summaryOf e) (bytesOf (e .bytes) (e .painted))
 
 -- ---- the answer to a text
 

@@ -7,24 +7,28 @@ use Prim.Native.Nat.{ℕ, _+_, _-_, _*_, _%_}
 use lib.Dec.{ltb, leb, eqb}
 use lib.ListN.{getD, set}
 use Rattle.picture.specs.Pixels.{pick}
-use Rattle.tile_text.specs.Text.{widthKey, heightKey, bppKey, streamKey}
+use Rattle.print.specs.Text.{ascii}
 use Rattle.tile_text.specs.declared.parser.Parser.{Parser}
 
 -- the lines' keys; line 4: the text is read whole; line 5: it is no tile text
 unfoldable pub keys : List (List ℕ)
-keys = widthKey ∷ heightKey ∷ bppKey ∷ streamKey ∷ []
+keys = ascii "width=" ∷ ascii "height=" ∷ ascii "bpp=" ∷ ascii "stream=" ∷ []
 
 -- the byte at a place of a line's key; 0: the key is read
 unfoldable pub keyByte : ℕ → ℕ → ℕ
 keyByte l place = getD (getD keys l []) place 0
 
--- the value of a decimal digit; 16: it is none
-unfoldable pub decimalValue : ℕ → ℕ
-decimalValue b = pick (ltb b 48) 16 (pick (ltb 57 b) 16 (b - 48))
+-- the value of b as one of the digits from `first` to `last`, the first of which is worth `least`; 16: it is none of them
+unfoldable pub digitAmong : ℕ → ℕ → ℕ → ℕ → ℕ
+digitAmong b first last least = pick (ltb b first) 16 (pick (ltb last b) 16 (b - first + least))
 
--- the value of a lower-case hexadecimal digit; 16: it is none
+-- the value of a decimal digit, `0` to `9`; 16: it is none
+abbrev pub decimalValue : ℕ → ℕ
+decimalValue b = digitAmong b 48 57 0
+
+-- the value of a lower-case hexadecimal digit, which is decimal or `a` to `f`; 16: it is none
 unfoldable pub hexValue : ℕ → ℕ
-hexValue b = pick (leb b 57) (decimalValue b) (pick (ltb b 97) 16 (pick (ltb 102 b) 16 (b - 87)))
+hexValue b = pick (leb b 57) (decimalValue b) (digitAmong b 97 102 10)
 
 -- nothing is read yet
 abbrev pub start : Parser
@@ -81,17 +85,19 @@ goesOn p = pick (p .begun) (pick (eqb (p .value) 0) false (ltb (p .value) 10_000
 unfoldable pub numberDigit : Parser → ℕ → Parser
 numberDigit p d = withValue (pick (p .begun) (p .value * 10 + d) d) p
 
--- the byte b after a number's key
+-- the byte b after a key: at a line feed the line is ended, and a digit, whose value is d, is read; all else departs
+unfoldable pub valueStep : Parser → ℕ → ℕ → Parser → Parser → Parser
+valueStep p b d ended read = pick (eqb b 10) ended (pick (ltb d 16) read (bad p))
+
+-- after a number's key
 unfoldable pub numberStep : Parser → ℕ → Parser
 numberStep p b =
-    pick (eqb b 10) (pick (p .begun) (endNumber p) (bad p))
-    (pick (ltb (decimalValue b) 16) (pick (goesOn p) (numberDigit p (decimalValue b)) (bad p)) (bad p))
+    valueStep p b (decimalValue b) (pick (p .begun) (endNumber p) (bad p)) (pick (goesOn p) (numberDigit p (decimalValue b)) (bad p))
 
--- the byte b after the stream's key
+-- after the stream's key
 unfoldable pub streamStep : Parser → ℕ → Parser
 streamStep p b =
-    pick (eqb b 10) (pick (p .begun) (bad p) (onLine 4 p))
-    (pick (ltb (hexValue b) 16) (pick (p .begun) (byteRead p) (withValue (hexValue b) p)) (bad p))
+    valueStep p b (hexValue b) (pick (p .begun) (bad p) (onLine 4 p)) (pick (p .begun) (byteRead p) (withValue (hexValue b) p))
 
 -- the state after the byte b
 unfoldable pub step : Parser → ℕ → Parser

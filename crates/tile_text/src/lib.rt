@@ -3,8 +3,8 @@
 // What a tile text is and what is answered is defined in specs/Text.antt and specs/Answer.antt; that the functions here give that
 // answer to every text is `chunks-answered` in proofs/Inverse.antt.
 pub mod answer;
+pub(crate) mod lines;
 pub mod parser;
-pub(crate) mod print;
 
 pub use answer::reply;
 pub use answer::reply_to;

@@ -1,7 +1,7 @@
 // A tile text, read one byte at a time in bounded memory.
 ghost use mathlib.Core.Path.{_≡_};
 ghost use mathlib.Core.Bool.{true};
-ghost use Prim.Native.Nat.{_<_};
+ghost use Prim.Native.Nat.{_≤_, _<_};
 ghost use Rattle.tile_text.specs.Parse as parse;
 
 // The line being read, 0 to 3, or `WHOLE` or `BAD`, and the place in its key.
@@ -54,17 +54,26 @@ fn key_byte(line: usize, place: usize) -> usize
     wide(KEYS[line * 7 + place])
 }
 
+// The value of b as one of the digits from `first` to `last`, the first of which is worth `least`; `NO_DIGIT` where it is none of
+// them.
+fn digit_among(b: usize, first: usize, last: usize, least: usize) -> usize
+    requires { ⌜ least ≤ first ⌝ }
+    ensures { λ r. ⌜ r ≡ parse.digitAmong b first last least ⌝ }
+{
+    if b < first {
+        return NO_DIGIT;
+    }
+    if last < b {
+        return NO_DIGIT;
+    }
+    b - first + least
+}
+
 // The value of a decimal digit, which is `0` to `9`, 48 to 57; `NO_DIGIT` where it is none.
 fn decimal_value(b: usize) -> usize
     ensures { λ r. ⌜ r ≡ parse.decimalValue b ⌝ }
 {
-    if b < 48 {
-        return NO_DIGIT;
-    }
-    if 57 < b {
-        return NO_DIGIT;
-    }
-    b - 48
+    digit_among(b, 48, 57, 0)
 }
 
 // The value of a lower-case hexadecimal digit, which is decimal or `a` to `f`, 97 to 102; `NO_DIGIT` where it is none.
@@ -74,13 +83,7 @@ fn hex_value(b: usize) -> usize
     if b <= 57 {
         return decimal_value(b);
     }
-    if b < 97 {
-        return NO_DIGIT;
-    }
-    if 102 < b {
-        return NO_DIGIT;
-    }
-    b - 87
+    digit_among(b, 97, 102, 10)
 }
 
 // Nothing is read yet.

@@ -6,17 +6,8 @@ use borrow.Author.Needs.{needs}
 use Rattle.tile_text.proofs.answer.reply_to.Statement.{statement}
 use Rattle.tile_text.proofs.answer.reply_to.Tie as tie
 
-start-requires : tie.Need-start-requires
-start-requires c κs = search needs
-
-feed-requires : tie.Need-feed-requires
-feed-requires c κs = search needs
-
-reply-requires : tie.Need-reply-requires
-reply-requires c κs = search needs
-
 returns : tie.Need-returns
 returns c = replied-to _ _ _ _ _ (c .before .before .before .before .before .before .start .ensures) (c .before .before .before .before .feed .ensures .0) (c .before .before .before .before .feed .ensures .1) (length-replicate {A = ℕ} 8192 0) (c .reply .ensures)
 
 pub reply-to-spec : {M : Type 1} → statement M
-reply-to-spec = tie.close (tie.spec start-requires feed-requires reply-requires returns)
+reply-to-spec = tie.close (tie.spec (λ c κs. search needs) (λ c κs. search needs) (λ c κs. search needs) returns)

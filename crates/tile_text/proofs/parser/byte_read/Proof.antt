@@ -5,9 +5,6 @@ use borrow.Author.Needs.{needs}
 use Rattle.tile_text.proofs.parser.byte_read.Statement.{statement}
 use Rattle.tile_text.proofs.parser.byte_read.Tie as tie
 
-add-p : tie.Need-add-p
-add-p c = search needs
-
 returns : tie.Need-returns
 unfolding byteRead countMore
 returns c = simp (lt-ltb _ _ (c .before .if1 .taken))
@@ -17,4 +14,4 @@ unfolding byteRead countMore
 returns-2 c = simp (le-ltb _ _ (c .if1 .left))
 
 pub byte-read-spec : {M : Type 1} → statement M
-byte-read-spec = tie.close (tie.spec add-p returns returns-2)
+byte-read-spec = tie.close (tie.spec (λ c. search needs) returns returns-2)

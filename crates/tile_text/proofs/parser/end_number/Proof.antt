@@ -5,34 +5,17 @@ use borrow.Author.Needs.{needs}
 use Rattle.tile_text.proofs.parser.end_number.Statement.{statement}
 use Rattle.tile_text.proofs.parser.end_number.Tie as tie
 
-next-line-requires : tie.Need-next-line-requires
-next-line-requires c κs = search needs
-
 returns : tie.Need-returns
 unfolding endNumber
 returns c = simp (eq-eqb _ _ (c .before .if1 .taken)) (c .next-line .ensures)
 
-next-line-requires-2 : tie.Need-next-line-requires-2
-next-line-requires-2 c κs = search needs
-
 returns-2 : tie.Need-returns-2
 unfolding endNumber
 returns-2 c = simp (ne-eqb _ _ (c .before .before .before .if1 .left), eq-eqb _ _ (c .before .if2 .taken)) (c .next-line2 .ensures)
-
-next-line-requires-3 : tie.Need-next-line-requires-3
-next-line-requires-3 c κs = search needs
 
 returns-3 : tie.Need-returns-3
 unfolding endNumber
 returns-3 c = simp (ne-eqb _ _ (c .before .before .before .if1 .left), ne-eqb _ _ (c .before .if2 .left)) (c .next-line3 .ensures)
 
 pub end-number-spec : {M : Type 1} → statement M
-end-number-spec =
-    tie.close
-    (tie.spec
-    next-line-requires
-    returns
-    next-line-requires-2
-    returns-2
-    next-line-requires-3
-    returns-3)
+end-number-spec = tie.close (tie.spec (λ c κs. search needs) returns (λ c κs. search needs) returns-2 (λ c κs. search needs) returns-3)

@@ -5,9 +5,6 @@ use borrow.Author.Needs.{needs}
 use Rattle.tile_text.proofs.parser.ends_byte.Statement.{statement}
 use Rattle.tile_text.proofs.parser.ends_byte.Tie as tie
 
-hex-value-requires : tie.Need-hex-value-requires
-hex-value-requires c κs = search needs
-
 returns : tie.Need-returns
 unfolding endsByte
 returns c = rw (← c .hex-value .ensures) (simp (eq-eqb _ _ (c .before .before .if1 .taken), c .before .if2 .taken))
@@ -21,4 +18,4 @@ unfolding endsByte
 returns-3 c = simp (ne-eqb _ _ (c .if1 .left))
 
 pub ends-byte-spec : {M : Type 1} → statement M
-ends-byte-spec = tie.close (tie.spec hex-value-requires returns returns-2 returns-3)
+ends-byte-spec = tie.close (tie.spec (λ c κs. search needs) returns returns-2 returns-3)

@@ -1,5 +1,6 @@
 -- `key_byte` meets its contract: the table has the keys. Assumes nothing.
 use mathlib.Core.Path.{sym, _∙_}
+use Rattle.print.specs.Text.{ascii}
 use Rattle.tile_text.proofs.Keys.{past-lines, past-seven, key-in-table}
 use borrow.Author.Needs.{needs}
 use Rattle.tile_text.proofs.parser.key_byte.Statement.{statement}
@@ -11,22 +12,11 @@ returns c = sym (past-lines _ _ (c .if1 .taken))
 returns-2 : tie.Need-returns-2
 returns-2 c = sym (past-seven _ _ (c .if2 .taken))
 
-mul-wide : tie.Need-mul-wide
-mul-wide c = search needs
-
-add-wide : tie.Need-add-wide
-add-wide c = search needs
-
-array-read-wide : tie.Need-array-read-wide
-array-read-wide c = search needs
-
-wide-requires : tie.Need-wide-requires
-wide-requires c κs = search needs
-
 returns-3 : tie.Need-returns-3
+unfolding ascii
 returns-3 c = c .wide .ensures ∙ key-in-table _ _ (c .before .before .if1 .left) (c .before .if2 .left)
 
 pub key-byte-spec : {M : Type 1} → statement M
 key-byte-spec =
     tie.close
-    (tie.spec returns returns-2 mul-wide add-wide array-read-wide wide-requires returns-3)
+    (tie.spec returns returns-2 (λ c. search needs) (λ c. search needs) (λ c. search needs) (λ c κs. search needs) returns-3)

@@ -7,9 +7,6 @@ use native.Mathlib.Omega.{arith}
 use Rattle.tile_text.proofs.parser.step.Statement.{statement}
 use Rattle.tile_text.proofs.parser.step.Tie as tie
 
-key-byte-requires : tie.Need-key-byte-requires
-key-byte-requires c κs = search needs
-
 add-p : tie.Need-add-p
 add-p c = omega (arith, in-seven _ _ (rw (c .before .before .before .key-byte .ensures) at (c .before .before .if1 .taken)))
 
@@ -17,29 +14,17 @@ returns : tie.Need-returns
 unfolding step keyStep
 returns c = rw (← c .before .before .before .key-byte .ensures) (simp (lt-ltb _ _ (c .before .before .if1 .taken), eq-eqb _ _ (c .before .if2 .taken)))
 
-bad-requires : tie.Need-bad-requires
-bad-requires c κs = search needs
-
 returns-2 : tie.Need-returns-2
 unfolding step keyStep
 returns-2 c = rw (← c .before .before .before .key-byte .ensures) (simp (lt-ltb _ _ (c .before .before .if1 .taken), ne-eqb _ _ (c .before .if2 .left)) (c .bad .ensures))
-
-number-step-requires : tie.Need-number-step-requires
-number-step-requires c κs = search needs
 
 returns-3 : tie.Need-returns-3
 unfolding step
 returns-3 c = rw (← c .before .before .before .before .key-byte .ensures) (simp (le-ltb _ _ (c .before .before .before .if1 .left), lt-ltb _ _ (c .before .if3 .taken)) (c .number-step .ensures))
 
-stream-step-requires : tie.Need-stream-step-requires
-stream-step-requires c κs = search needs
-
 returns-4 : tie.Need-returns-4
 unfolding step
 returns-4 c = rw (← c .before .before .before .before .before .before .key-byte .ensures) (simp (le-ltb _ _ (c .before .before .before .before .before .if1 .left), le-ltb _ _ (c .before .before .before .if3 .left), eq-eqb _ _ (c .before .if4 .taken)) (c .stream-step .ensures))
-
-bad-requires-2 : tie.Need-bad-requires-2
-bad-requires-2 c κs = search needs
 
 returns-5 : tie.Need-returns-5
 unfolding step
@@ -48,15 +33,5 @@ returns-5 c = rw (← c .before .before .before .before .before .before .key-byt
 pub step-spec : {M : Type 1} → statement M
 step-spec =
     tie.close
-    (tie.spec
-    key-byte-requires
-    add-p
-    returns
-    bad-requires
-    returns-2
-    number-step-requires
-    returns-3
-    stream-step-requires
-    returns-4
-    bad-requires-2
-    returns-5)
+    (tie.spec (λ c κs. search needs) add-p returns (λ c κs. search needs) returns-2 (λ c κs. search needs) returns-3
+    (λ c κs. search needs) returns-4 (λ c κs. search needs) returns-5)

@@ -6,15 +6,6 @@ use native.Mathlib.Omega.{arith}
 use Rattle.tile_text.proofs.parser.store.Statement.{statement}
 use Rattle.tile_text.proofs.parser.store.Tie as tie
 
-ends-byte-requires : tie.Need-ends-byte-requires
-ends-byte-requires c κs = search needs
-
-hex-value-requires : tie.Need-hex-value-requires
-hex-value-requires c κs = search needs
-
-mul-stream : tie.Need-mul-stream
-mul-stream c = search needs
-
 add-stream : tie.Need-add-stream
 add-stream c =
     let ends = sym (c .before .before .before .before .ends-byte .ensures) ∙ c .before .before .before .if1 .taken in
@@ -24,9 +15,6 @@ cast-stream : tie.Need-cast-stream
 cast-stream c =
     let ends = sym (c .before .before .before .before .ends-byte .ensures) ∙ c .before .before .before .if1 .taken in
     omega (arith, ending-digit _ _ ends (c .before .before .hex-value .ensures))
-
-element-write-stream : tie.Need-element-write-stream
-element-write-stream c = search needs
 
 returns : tie.Need-returns
 returns c = stored-in _ _ _ _ (sym (c .before .before .before .before .ends-byte .ensures) ∙ c .before .before .before .if1 .taken) (c .before .before .hex-value .ensures) (c .before .if2 .taken)
@@ -40,13 +28,5 @@ returns-3 c = stored-not _ _ _ (sym (c .before .ends-byte .ensures) ∙ c .if1 .
 pub store-spec : {M : Type 1} → statement M
 store-spec =
     tie.close
-    (tie.spec
-    ends-byte-requires
-    hex-value-requires
-    mul-stream
-    add-stream
-    cast-stream
-    element-write-stream
-    returns
-    returns-2
-    returns-3)
+    (tie.spec (λ c κs. search needs) (λ c κs. search needs) (λ c. search needs) add-stream cast-stream (λ c. search needs) returns
+    returns-2 returns-3)

@@ -1,52 +1,42 @@
 -- `stream_step` meets its contract: its tests are the definition's. Assumes nothing.
-use borrow.Author.Tests.{eq-eqb, ne-eqb, lt-ltb, le-ltb}
+use mathlib.Core.Path.{sym, _∙_}
 use Rattle.tile_text.specs.Parse.{streamStep}
+use Rattle.tile_text.proofs.Steps.{value-ended, value-none, value-read}
 use borrow.Author.Needs.{needs}
 use Rattle.tile_text.proofs.parser.stream_step.Statement.{statement}
 use Rattle.tile_text.proofs.parser.stream_step.Tie as tie
 
-bad-requires : tie.Need-bad-requires
-bad-requires c κs = search needs
-
 returns : tie.Need-returns
 unfolding streamStep
-returns c = simp (eq-eqb _ _ (c .before .before .if1 .taken), c .before .if2 .taken) (c .bad .ensures)
+returns c = c .bad .ensures ∙ sym (value-ended _ _ _ _ _ (c .before .before .if1 .taken) ∙ rw (c .before .if2 .taken))
 
 returns-2 : tie.Need-returns-2
 unfolding streamStep
-returns-2 c = simp (eq-eqb _ _ (c .before .if1 .taken), c .if2 .left)
-
-hex-value-requires : tie.Need-hex-value-requires
-hex-value-requires c κs = search needs
-
-bad-requires-2 : tie.Need-bad-requires-2
-bad-requires-2 c κs = search needs
+returns-2 c = sym (value-ended _ _ _ _ _ (c .before .if1 .taken) ∙ rw (c .if2 .left))
 
 returns-3 : tie.Need-returns-3
 unfolding streamStep
-returns-3 c = rw (← c .before .before .hex-value .ensures) (simp (ne-eqb _ _ (c .before .before .before .if1 .left), le-ltb _ _ (c .before .if3 .taken)) (c .bad2 .ensures))
-
-byte-read-requires : tie.Need-byte-read-requires
-byte-read-requires c κs = search needs
+returns-3 c =
+    let digit = c .before .before in
+    c .bad2 .ensures ∙ sym (value-none _ _ _ _ _ (digit .before .if1 .left) (digit .hex-value .ensures) (c .before .if3 .taken))
 
 returns-4 : tie.Need-returns-4
 unfolding streamStep
-returns-4 c = rw (← c .before .before .before .hex-value .ensures) (simp (ne-eqb _ _ (c .before .before .before .before .if1 .left), lt-ltb _ _ (c .before .before .if3 .left), c .before .if4 .taken) (c .byte-read .ensures))
+returns-4 c =
+    let test = c .before .before in
+    let digit = test .before in
+    c .byte-read .ensures
+    ∙ sym (value-read _ _ _ _ _ (digit .before .if1 .left) (digit .hex-value .ensures) (test .if3 .left) ∙ rw (c .before .if4 .taken))
 
 returns-5 : tie.Need-returns-5
 unfolding streamStep
-returns-5 c = rw (← c .before .before .hex-value .ensures) (simp (ne-eqb _ _ (c .before .before .before .if1 .left), lt-ltb _ _ (c .before .if3 .left), c .if4 .left))
+returns-5 c =
+    let digit = c .before .before in
+    let d = digit .hex-value .ensures in
+    sym (value-read _ _ _ _ _ (digit .before .if1 .left) d (c .before .if3 .left) ∙ rw (c .if4 .left, ← d))
 
 pub stream-step-spec : {M : Type 1} → statement M
 stream-step-spec =
     tie.close
-    (tie.spec
-    bad-requires
-    returns
-    returns-2
-    hex-value-requires
-    bad-requires-2
-    returns-3
-    byte-read-requires
-    returns-4
-    returns-5)
+    (tie.spec (λ c κs. search needs) returns returns-2 (λ c κs. search needs) (λ c κs. search needs) returns-3 (λ c κs. search needs)
+    returns-4 returns-5)
