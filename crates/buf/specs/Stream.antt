@@ -1,20 +1,16 @@
 -- What a reader finds at a place of a stream: the bytes left there, and the number in the next one or two of them, low byte first,
 -- as `Buf` of rle.rs reads them. A place past the end has no bytes left, so that every place has an answer.
 use Prim.Native.Nat.{ℕ, _+_, _*_, _-_}
-use mathlib.Core.Bool.{Bool, true, false}
 use mathlib.Core.List.{List}
 use lib.Dec.{leb}
 use lib.ListN.{length, getD}
+use Rattle.base.specs.Picks.{pick}
 use Rattle.buf.specs.declared.Read.{Read}
 use Rattle.buf.specs.declared.Read.the-variants.{Value, NotEnoughBytes}
 
 -- the number of bytes left at a place
 unfoldable pub remaining : List ℕ → ℕ → ℕ
 remaining s pos = length s - pos
-
-abbrev pick : {A : Type 0} → Bool → A → A → A
-pick true a b = a
-pick false a b = b
 
 -- the value where enough bytes are left, else how many were expected and how many are left
 unfoldable pub answer : ℕ → ℕ → ℕ → Read

@@ -8,8 +8,9 @@ use native.Mathlib.Omega.{arith}
 use lib.Dec.{eqb}
 use lib.ListN.{length}
 use borrow.Author.Tests.{eqb-true, eq-eqb}
-use Rattle.picture.specs.Pixels.{pick, pixelAt, firstPixel}
-use Rattle.color.specs.Colors.{Triple, colorOf, entry, expand15, expand16}
+use Rattle.base.specs.Picks.{pick}
+use Rattle.picture.specs.Pixels.{pixelAt, firstPixel}
+use Rattle.color.specs.Colors.{Triple, colorOf, entry, expandWord}
 use Rattle.color.specs.SamePicture.{Picture, Alike, both, valid, colorAt, sameTriple, sameColors, samePicture}
 use Rattle.color.proofs.Triples.{never, same-equal, equal-same}
 
@@ -25,7 +26,7 @@ picked false x y p q = q
 
 module _ (palette : List ℕ) (p : Picture) (k : ℕ) where
   triple : length (colorAt palette p k) ≡ 3
-  unfolding colorAt colorOf entry expand15 expand16 pixelAt firstPixel
+  unfolding colorAt colorOf entry expandWord pixelAt firstPixel
   triple = picked (eqb (p .bpp) 8) _ _ refl (picked (eqb (p .bpp) 15) _ _ refl (picked (eqb (p .bpp) 16) _ _ refl refl))
 
 -- ---- the painted pixels

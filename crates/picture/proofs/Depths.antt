@@ -3,12 +3,12 @@ use mathlib.Core.Path.{_≡_, refl, ap, sym, _∙_}
 use mathlib.Core.List.{List, map}
 use Prim.Native.Nat.{ℕ, zero, suc, _≤_, _<_}
 use native.Mathlib.Omega.{arith}
-use mathlib.Core.Bool.{Bool, true, false}
 use lib.Dec.{eqb, lit≤}
 use borrow.Author.Tests.{ne-eqb, eqb-true}
 use lib.ListN.{getD, List·getD-eq-default}
+use Rattle.base.proofs.Tests.{by-test, by-less}
 use Rattle.picture.specs.declared.depth.Depth.{Depth as CodeDepth}
-use Rattle.picture.specs.Pixels.{OfDepth, pick, firstPixel}
+use Rattle.picture.specs.Pixels.{OfDepth, firstPixel}
 use Rattle.picture.specs.Sizes.{Depth, depths, noDepth, depthIndex, depthOf}
 use Rattle.picture.specs.Outcomes.{depthIn}
 
@@ -52,11 +52,18 @@ pub no-depth : (bpp i : ℕ) → i ≡ depthIndex bpp → 4 ≤ i → noDepth �
 unfolding depths depthOf
 no-depth bpp i e h = sym (List·getD-eq-default depths noDepth (rw e at h))
 
+-- only a depth that the table has none of has no bytes
+pub unlisted : (bpp : ℕ) → depthOf bpp .bytes ≡ 0 → 4 ≤ depthIndex bpp
+unlisted bpp e = by-less (depthIndex bpp) 4 (λ low. absurd (omega (arith, depth-good bpp low .low))) (λ high. high)
+
+pub listed : (bpp : ℕ) → (depthOf bpp .bytes ≡ 0 → ⊥) → depthIndex bpp < 4
+unfolding noDepth
+listed bpp h =
+    by-less (depthIndex bpp) 4 (λ low. low) (λ high. absurd (h (ap (λ (d : Depth). d .bytes) (sym (no-depth bpp (depthIndex bpp) refl high)))))
+
 -- a format that is none of the first three
 pub last-format : (k : ℕ) → depthIndex k < 4 → (k ≡ 8 → ⊥) → (k ≡ 15 → ⊥) → (k ≡ 16 → ⊥) → 24 ≡ k
 unfolding depthIndex
-last-format k h a b c = go (eqb k 24) refl (rw (ne-eqb k 8 a, ne-eqb k 15 b, ne-eqb k 16 c) at h)
-  where
-    go : (t : Bool) → eqb k 24 ≡ t → pick t 3 4 < 4 → 24 ≡ k
-    go true e l = sym (eqb-true k 24 e)
-    go false e l = absurd (omega arith)
+last-format k h a b c =
+    by-test (λ i. i < 4 → 24 ≡ k) (eqb k 24) (λ e l. sym (eqb-true k 24 e)) (λ e l. absurd (omega arith))
+    (rw (ne-eqb k 8 a, ne-eqb k 15 b, ne-eqb k 16 c) at h)

@@ -4,7 +4,8 @@ use mathlib.Core.Bool.{Bool, false}
 use Prim.Native.Nat.{ℕ, _*_}
 use lib.Dec.{ltb, leb, eqb}
 use lib.ListN.{getD}
-use Rattle.picture.specs.Pixels.{Pixel, pick}
+use Rattle.base.specs.Picks.{pick}
+use Rattle.picture.specs.Pixels.{Pixel}
 
 -- a refusal's number and its two values
 --   1 bpp not in the depth table (bpp), 2 width or height 0, 3 width or height above 8,192 (width, height),
