@@ -16,9 +16,6 @@ unfolding paletteFits
 palette-long palette bpp e h = leb-true 768 (length palette) (rw e at h)
 
 module _ {palette xs : List ℕ} {bpp : ℕ} where
-  pub fits : (k D : ℕ) → D ≡ depthOf bpp .bytes → Expandable palette xs bpp (k + 1) → k * D + D ≤ length xs
-  fits k D e x = omega (arith, rw (← e) at (x .fits), add-mul k 1 D, one-mul D)
-
   pub fewer : {n : ℕ} (m : ℕ) → m ≤ n → Expandable palette xs bpp n → Expandable palette xs bpp m
   fewer m h x =
       record {

@@ -80,7 +80,7 @@ fn refused(e: RleError) -> Expanded
 pub fn expand(pixel: [u8; 3], bpp: usize, palette: &[u8]) -> Expanded
     ensures { λ r. ⌜ answerIn r ≡ expanded (now (palette .entry)) bpp pixel ⌝ }
 {
-    if picture::bytes_per_pixel(bpp) == 0 {
+    if picture::unlisted(bpp) {
         return refused(RleError::InvalidBpp { bpp });
     }
     if !palette_fits(bpp, palette) {

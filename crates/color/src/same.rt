@@ -9,7 +9,7 @@ ghost use Rattle.color.specs.Contracts.{Expandable};
 use crate::palette::palette_fits;
 use crate::palette::same_triple;
 use crate::pixel::color_of;
-use crate::read::pixel_at;
+use crate::read::pixel_of;
 use picture::PictureSize;
 
 // A picture's numbers: `pixels` of its pixels are painted. Its bytes stand in a slice beside it.
@@ -39,12 +39,12 @@ pub(crate) fn is_valid(slice: &[u8], shape: Shape, palette: &[u8]) -> bool
     }
 }
 
-// The color of pixel k, which has d bytes. The picture is valid: nothing is tested again for a pixel but which depth it has.
-pub(crate) fn color_at(slice: &[u8], d: usize, bpp: usize, palette: &[u8], k: usize) -> [u8; 3]
-    requires { ⌜ (d ≡ depthOf bpp .bytes) × Expandable (now palette) (now slice) bpp (k + 1) ⌝ }
+// The color of pixel k. The picture is valid: nothing is tested again for a pixel but which depth it has.
+pub(crate) fn color_at(slice: &[u8], bpp: usize, palette: &[u8], k: usize) -> [u8; 3]
+    requires { ⌜ Expandable (now palette) (now slice) bpp (k + 1) ⌝ }
     ensures { λ r. ⌜ r ≡ colorOf (now (palette .entry)) bpp (pixelAt (depthOf bpp .bytes) (now (slice .entry)) k) ⌝ }
 {
-    color_of(pixel_at(slice, d, k), bpp, palette)
+    color_of(pixel_of(slice, bpp, k), bpp, palette)
 }
 
 // Whether the painted pixels of two valid pictures have the same colors. p and q are the numbers of a and b, of equal counts.
@@ -52,12 +52,10 @@ pub(crate) fn same_colors(a: &[u8], p: Shape, b: &[u8], q: Shape, palette: &[u8]
     requires { ⌜ (Expandable (now palette) (now a) (p .bpp) (p .pixels)) × (Expandable (now palette) (now b) (q .bpp) (p .pixels)) ⌝ }
     ensures { λ r. ⌜ r ≡ sameColors (now (palette .entry)) (pictureOf (now (a .entry)) p) (pictureOf (now (b .entry)) q) (p .pixels) ⌝ }
 {
-    let d = picture::bytes_per_pixel(p.bpp);
-    let e = picture::bytes_per_pixel(q.bpp);
     let mut k: usize = 0;
     while k < p.pixels {
-        let s = color_at(a, d, p.bpp, palette, k);
-        let t = color_at(b, e, q.bpp, palette, k);
+        let s = color_at(a, p.bpp, palette, k);
+        let t = color_at(b, q.bpp, palette, k);
         if !same_triple(s, t) {
             return false;
         }

@@ -6,7 +6,7 @@ use native.Mathlib.Omega.{arith}
 use lib.Dec.{eqb, lit≤}
 use borrow.Author.Tests.{ne-eqb, eqb-true}
 use lib.ListN.{getD, List·getD-eq-default}
-use Rattle.base.proofs.Tests.{by-test, by-less}
+use Rattle.base.proofs.Tests.{by-test}
 use Rattle.picture.specs.declared.depth.Depth.{Depth as CodeDepth}
 use Rattle.picture.specs.Pixels.{OfDepth, firstPixel}
 use Rattle.picture.specs.Sizes.{Depth, depths, noDepth, depthIndex, depthOf}
@@ -51,15 +51,6 @@ depth-good bpp h =
 pub no-depth : (bpp i : ℕ) → i ≡ depthIndex bpp → 4 ≤ i → noDepth ≡ depthOf bpp
 unfolding depths depthOf
 no-depth bpp i e h = sym (List·getD-eq-default depths noDepth (rw e at h))
-
--- only a depth that the table has none of has no bytes
-pub unlisted : (bpp : ℕ) → depthOf bpp .bytes ≡ 0 → 4 ≤ depthIndex bpp
-unlisted bpp e = by-less (depthIndex bpp) 4 (λ low. absurd (omega (arith, depth-good bpp low .low))) (λ high. high)
-
-pub listed : (bpp : ℕ) → (depthOf bpp .bytes ≡ 0 → ⊥) → depthIndex bpp < 4
-unfolding noDepth
-listed bpp h =
-    by-less (depthIndex bpp) 4 (λ low. low) (λ high. absurd (h (ap (λ (d : Depth). d .bytes) (sym (no-depth bpp (depthIndex bpp) refl high)))))
 
 -- a format that is none of the first three
 pub last-format : (k : ℕ) → depthIndex k < 4 → (k ≡ 8 → ⊥) → (k ≡ 15 → ⊥) → (k ≡ 16 → ⊥) → 24 ≡ k

@@ -1,9 +1,7 @@
 -- `expand` meets its contract: each test is one of the definition's. Assumes nothing.
 use borrow.Author.Needs.{needs}
-use borrow.Author.Tests.{le-leb, lt-leb, not-true, not-false}
+use borrow.Author.Tests.{not-true, not-false}
 use mathlib.Core.Path.{sym, _∙_}
-use native.Mathlib.Omega.{arith}
-use Rattle.picture.proofs.Depths.{listed, unlisted}
 use Rattle.color.specs.Colors.{expanded}
 use Rattle.color.proofs.pixel.expand.Statement.{statement}
 use Rattle.color.proofs.pixel.expand.Tie as tie
@@ -11,14 +9,14 @@ use Rattle.color.proofs.pixel.expand.Tie as tie
 returns : tie.Need-returns
 unfolding expanded
 returns c =
-    simp (c .refused .ensures, le-leb _ _ (unlisted _ (sym (c .before .before .bytes-per-pixel .ensures) ∙ c .before .if1 .taken)))
+    simp (c .refused .ensures, sym (c .before .before .unlisted .ensures) ∙ c .before .if1 .taken)
 
 returns-2 : tie.Need-returns-2
 unfolding expanded
 returns-2 c =
     simp (
       c .refused2 .ensures,
-      lt-leb _ _ (listed _ (λ z. c .before .before .before .if1 .left (c .before .before .before .before .bytes-per-pixel .ensures ∙ z))),
+      sym (c .before .before .before .before .unlisted .ensures) ∙ c .before .before .before .if1 .left,
       sym (c .before .before .palette-fits .ensures) ∙ not-true _ (c .before .if2 .taken),
     )
 
@@ -31,7 +29,7 @@ returns-3 c =
     simp (
       c .done .ensures,
       c .before .color-of .ensures,
-      lt-leb _ _ (listed _ (λ z. c .before .before .before .before .if1 .left (c .before .before .before .before .before .bytes-per-pixel .ensures ∙ z))),
+      sym (c .before .before .before .before .before .unlisted .ensures) ∙ c .before .before .before .before .if1 .left,
       sym (c .before .before .before .palette-fits .ensures) ∙ not-false _ (c .before .before .if2 .left),
     )
 
