@@ -2,9 +2,8 @@
 //
 // What it is, is defined in specs/Rows.antt.
 ghost use mathlib.Core.Path.{_≡_};
-ghost use lib.ListN.{length};
 ghost use denote.Ref.{ptr};
-ghost use Rattle.screen.specs.Rows.{noPart, partOf, partPlace, partToShow, rowToShow};
+ghost use Rattle.screen.specs.Rows.{noPart, partOf, partToShow, placeToShow, rowToShow};
 use picture::PictureSize;
 
 // A part of the new picture or of the one on screen, in bytes.
@@ -72,7 +71,7 @@ pub fn row_to_show<'a>(
     r: usize,
 ) -> &'a [u8]
     ensures { λ s. ⌜ now s ≡ rowToShow (now (new .entry)) pixels (now (screen .entry)) bpp width height r ⌝ }
-    ensures { λ s. ⌜ ptr s ≡ partPlace (ptr (new .entry)) (ptr (screen .entry)) (partToShow (length (now (new .entry))) pixels (length (now (screen .entry))) bpp width height r) ⌝ }
+    ensures { λ s. ⌜ ptr s ≡ placeToShow (new .entry) pixels (screen .entry) bpp width height r ⌝ }
 {
     let part = part_to_show(new.len(), pixels, screen.len(), bpp, width, height, r);
     let from = part.start;
