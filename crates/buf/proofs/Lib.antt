@@ -3,3 +3,4 @@ pub mod Contracts
 pub mod From
 pub mod Peek
 pub mod Reader
+pub mod Place
