@@ -53,7 +53,7 @@ module _ (find : List ℕ → ℕ → Read) {M : Type 1} (𝓤 : URA M) where
     OfReader = tripleOf 𝓤 H A (of-reader .signature) (closing 𝓤 H A of-reader reader-clauses)
 
 module _ {M : Type 1} (𝓤 : URA M) where
-  -- ---- a walked function's own clause, of whatever form: it follows from φ, what the walk knows of the answer and of the parameters at exit
+  -- ---- a walked function's own clause, of whatever form: it follows from φ, what the walk knows of the result and of the parameters at exit
   abbrev pub Follows : (T : Ended) → Clauses 𝓤 T → ((κs : Lfts (T .signature .lifetimes)) → Args (T .signature) κs → Res (T .signature) κs → AtExit T κs → Type 0) → Type 1
   Follows T c φ = (κs : Lfts (T .signature .lifetimes)) (a : Args (T .signature) κs) (g : c κs a .ghost) (r : Res (T .signature) κs) (e : AtExit T κs) → φ κs a r e → ent 𝓤 (emp 𝓤) (c κs a .ensures g r e)
 

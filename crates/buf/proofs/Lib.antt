@@ -1,4 +1,5 @@
 pub mod Answers
+pub mod Reading
 pub mod Contracts
 pub mod From
 pub mod Peek

@@ -4,12 +4,12 @@ use mathlib.Core.Path.{_≡_}
 use mathlib.Core.Logic.{inl, inr}
 use Prim.Native.Nat.{ℕ, _+_, _*_, _/_, _%_, _≤_, _<_}
 use native.Mathlib.Omega.{arith}
-use Rattle.color.specs.Contracts.{Greens}
+use Rattle.color.specs.Contracts.{ChannelValues}
 
 pub blue : (low high : ℕ) → (low + 256 * high) % 32 ≡ low % 32
 blue low high = omega arith
 
-module _ {n : ℕ} (g : Greens n) where
+module _ {n : ℕ} (g : ChannelValues n) where
   -- green's upper bits have n / 8 values
   pub uppers : (4 ≤ n / 8) × (n ≤ 64)
   uppers = elim g [ inl e ↦ rw e (omega arith, omega arith) | inr e ↦ rw e (omega arith, omega arith) ]

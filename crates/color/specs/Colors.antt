@@ -1,5 +1,5 @@
 -- Expansion: one pixel becomes a blue, a green and a red byte, in this order; bytes that the depth does not use are ignored.
--- `expand` answers what `expanded` says, and same picture compares the same colors. The rule of a channel stands in one place,
+-- `expand` gives what `expanded` says, and same picture compares the same colors. The rule of a channel stands in one place,
 -- `channel`.
 use mathlib.Core.List.{List, [], _∷_}
 use mathlib.Core.Bool.{Bool, true}
@@ -44,7 +44,7 @@ colorOf palette bpp p =
 unfoldable pub paletteFits : ℕ → List ℕ → Bool
 paletteFits bpp palette = pick (eqb bpp 8) (leb 768 (length palette)) true
 
--- what expansion answers: a refusal (number 0: none), and the triple (zeros where refused)
+-- what expansion gives: a refusal (number 0: none), and the triple (zeros where refused)
 pub record Answer : Type 0 where
   pub refusal : Refusal
   pub triple : Triple
@@ -61,7 +61,7 @@ expanded palette bpp p =
     pick (leb 4 (depthIndex bpp)) (refusing (refusal 1 bpp 0))
     (pick (paletteFits bpp palette) (giving (colorOf palette bpp p)) (refusing (refusal 4 768 (length palette))))
 
--- number and values of the code's answer
+-- number and values of the code's refusal
 abbrev pub refusalIn : Expansion → Refusal
 refusalIn Done = refusal 0 0 0
 refusalIn (Refused e) = refusalOf e

@@ -8,9 +8,9 @@ use lib.ListN.{length}
 use Rattle.picture.specs.Sizes.{depthIndex, depthOf}
 use Rattle.color.specs.Colors.{paletteFits}
 
--- green of a pixel of two bytes has five bits or six
-abbrev pub Greens : ℕ → Type 0
-Greens n = (n ≡ 32) ⊎ (n ≡ 64)
+-- how many values a channel has: it has five bits or six
+abbrev pub ChannelValues : ℕ → Type 0
+ChannelValues n = (n ≡ 32) ⊎ (n ≡ 64)
 
 -- the first n pixels of the bytes xs can be expanded
 pub record Expandable (palette xs : List ℕ) (bpp n : ℕ) : Type 0 where

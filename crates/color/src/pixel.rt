@@ -4,7 +4,7 @@ ghost use mathlib.Core.Bool.{true};
 ghost use Prim.Native.Nat.{_<_};
 ghost use Rattle.picture.specs.Outcomes.{refusalOf};
 ghost use Rattle.color.specs.Colors.{channel, expandWord, colorOf, paletteFits, expanded, answerIn, giving, refusing};
-ghost use Rattle.color.specs.Contracts.{Greens};
+ghost use Rattle.color.specs.Contracts.{ChannelValues};
 use crate::palette::palette_fits;
 use crate::read::pixel_at;
 use base::widen;
@@ -15,7 +15,7 @@ pub enum Expansion {
     Refused(RleError),
 }
 
-// The triple is blue, green, red; zeros where refused. An enum can't hold an array, so it stands beside the answer.
+// The triple is blue, green, red; zeros where refused. An enum can't hold an array, so it stands beside the enum.
 pub struct Expanded {
     pub answer: Expansion,
     pub bgr: [u8; 3],
@@ -23,7 +23,7 @@ pub struct Expanded {
 
 // A channel of n values as a byte.
 pub(crate) fn channel_byte(n: usize, c: usize) -> u8
-    requires { ⌜ Greens n × (c < n) ⌝ }
+    requires { ⌜ ChannelValues n × (c < n) ⌝ }
     ensures { λ r. ⌜ r ≡ channel n c ⌝ }
 {
     (256 / n * c) as u8
@@ -32,7 +32,7 @@ pub(crate) fn channel_byte(n: usize, c: usize) -> u8
 // The color of a pixel of two bytes, whose green has n values. The channels are taken out of the two bytes one by one: as one number
 // they would be read back from memory that was just written, which stalls.
 pub(crate) fn from_two_bytes(pixel: [u8; 3], n: usize) -> [u8; 3]
-    requires { ⌜ Greens n ⌝ }
+    requires { ⌜ ChannelValues n ⌝ }
     ensures { λ r. ⌜ r ≡ expandWord n pixel ⌝ }
 {
     let low = widen(pixel[0]);

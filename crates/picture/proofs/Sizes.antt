@@ -6,6 +6,7 @@ use native.Mathlib.Nat.{mul-le-mul}
 use native.Mathlib.Omega.{arith}
 use lib.Dec.{ltb, leb, eqb}
 use borrow.Author.Tests.{leb-false, eqb-false, ltb-false, le-leb, lt-leb, lt-ltb, le-ltb, eq-eqb, ne-eqb}
+use Rattle.base.proofs.Tests.{apart}
 use Rattle.picture.specs.declared.PictureSize.{PictureSize}
 use Rattle.picture.specs.Sizes.{Refusal, refusal, depthIndex, depthOf, Checked, rejected, accepted, accept, checked, Size, bytes, refused, sizeOf}
 use Rattle.picture.specs.Outcomes.{sizeIn}
@@ -42,9 +43,9 @@ module _ (bpp w h i : ℕ) (is : i ≡ depthIndex bpp) where
           size-fits e D p = rw (← is, lt-leb 4 i a, ne-eqb w 0 b, ne-eqb h 0 c, le-ltb 8192 w d, le-ltb 8192 h e, p)
 
 clash : (n : ℕ) (r : Refusal) → bytes n ≡ refused r → ⊥
-clash n r e = let z : _≡_ {A = ℕ} 0 1 = cc in omega arith
+clash n r e = apart cc
 
--- what was matched of an answer
+-- what was matched of a size
 pub matched : {s t : PictureSize} {x : Size} → s ≡ t → sizeIn s ≡ x → sizeIn t ≡ x
 matched e p = ap (λ (y : PictureSize). sizeIn y) (sym e) ∙ p
 

@@ -4,6 +4,7 @@ use Prim.Native.Nat.{ℕ, _≤_, _<_, _-_}
 use mathlib.Core.Path.{_≡_, _∙_, sym}
 use native.Mathlib.Omega.{arith}
 use borrow.Author.Count.{below-more}
+use Rattle.base.proofs.Tests.{apart}
 use Rattle.picture.specs.Pixels.{pixelAt}
 use Rattle.picture.proofs.Pixels.{length-first-pixel}
 use Rattle.color.specs.Colors.{entry}
@@ -40,8 +41,7 @@ loop-again c = (
   below-more _ _ (c .before .before .before .before .loop .inv .1)
       (λ e.
       let same = equal-same _ _ (c .before .before .pixel-at .ensures ∙ e) in
-      let z : _≡_ {A = ℕ} 0 1 = cc (same, c .before .same-triple .ensures, c .if2 .left) in
-      omega arith),
+      apart (cc (same, c .before .same-triple .ensures, c .if2 .left))),
 )
 
 returns-3 : tie.Need-returns-3 Inv-loop μ-loop

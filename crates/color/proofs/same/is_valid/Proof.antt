@@ -1,6 +1,6 @@
 -- `is_valid` meets its contract: each test is one of the definition's. Assumes nothing.
 use borrow.Author.Needs.{needs}
-use borrow.Author.Tests.{ne-eqb, le-leb, lt-leb}
+use borrow.Author.Tests.{le-leb, lt-leb}
 use native.Mathlib.Omega.{arith}
 use Rattle.color.specs.SamePicture.{valid}
 use Rattle.picture.specs.Sizes.{hasSpace}
