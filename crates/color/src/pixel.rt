@@ -76,18 +76,24 @@ fn refused(e: RleError) -> Expanded
     }
 }
 
-// The color of a pixel of so many bits, or the refusal of the depth or of a short palette.
+// The color of a pixel of so many bits, or the refusal of the depth or of a short palette. The depths are literals in the calls of
+// `color_of`, which makes them faster.
 pub fn expand(pixel: [u8; 3], bpp: usize, palette: &[u8]) -> Expanded
     ensures { λ r. ⌜ answerIn r ≡ expanded (now (palette .entry)) bpp pixel ⌝ }
 {
-    if picture::unlisted(bpp) {
-        return refused(RleError::InvalidBpp { bpp });
+    match bpp {
+        8 => {
+            if !palette_fits(8, palette) {
+                return refused(RleError::BufferTooShort {
+                    needed: 768,
+                    given: palette.len(),
+                });
+            }
+            done(color_of(pixel, 8, palette))
+        }
+        15 => done(color_of(pixel, 15, palette)),
+        16 => done(color_of(pixel, 16, palette)),
+        24 => done(color_of(pixel, 24, palette)),
+        _ => refused(RleError::InvalidBpp { bpp }),
     }
-    if !palette_fits(bpp, palette) {
-        return refused(RleError::BufferTooShort {
-            needed: 768,
-            given: palette.len(),
-        });
-    }
-    done(color_of(pixel, bpp, palette))
 }
