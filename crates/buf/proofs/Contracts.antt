@@ -19,22 +19,22 @@ use denote.Triple.Entry.{Args, Res}
 use denote.Triple.Spec.{tripleOf, exits}
 use denote.Triple.Clauses.{Ended, Clauses, AtExit, closing, lasts}
 use Rattle.buf.specs.declared.Read.{Read}
-use Rattle.buf.proofs.Buf as T
-use Rattle.buf.proofs.Read as S
+use Rattle.buf.proofs.Buf as BufType
+use Rattle.buf.proofs.Read as ReadType
 use Rattle.buf.proofs.Place.{of-slice-and-place}
 
 -- the reader's type, over the signature's lifetimes
 abbrev pub Reader : Lfts 1 → RattleType
-Reader κs = T.the-row (namedLft 1 0 tt κs)
+Reader κs = BufType.the-row (namedLft 1 0 tt κs)
 
 -- `fn f(s: &[u8], pos: usize) -> Read`
 abbrev pub of-place : Ended
-of-place = of-slice-and-place (plain (λ _. S.the-row))
+of-place = of-slice-and-place (plain (λ _. ReadType.the-row))
 
 -- `fn f<'a>(b: Buf<'a>) -> Read`
 abbrev pub of-reader : Ended
 of-reader = record {
-  signature = record { lifetimes = 1; outlives = []; params = plain Reader ∷ []; result = plain (λ _. S.the-row) };
+  signature = record { lifetimes = 1; outlives = []; params = plain Reader ∷ []; result = plain (λ _. ReadType.the-row) };
   kept = (yes, tt);
 }
 

@@ -39,10 +39,10 @@ use denote.Triple.Walked.{ends-at}
 use denote.Triple.Clauses.{Clauses, closing, ensured}
 use Rattle.buf.specs.declared.Buf.{Buf}
 use Rattle.buf.specs.declared.Read.{Read}
-use Rattle.buf.proofs.Buf as T
-use Rattle.buf.proofs.Buf.Laws as T′
-use Rattle.buf.proofs.Read as S
-use Rattle.buf.proofs.Read.Laws as S′
+use Rattle.buf.proofs.Buf as BufType
+use Rattle.buf.proofs.Buf.Laws as BufLaws
+use Rattle.buf.proofs.Read as ReadType
+use Rattle.buf.proofs.Read.Laws as ReadLaws
 use Rattle.buf.proofs.Contracts.{Reader, of-place, of-reader, reader-clauses, OfReader, Follows, adds, asks-nothing, clause-alone}
 use Rattle.buf.proofs.Reader.{slice-value}
 use Rattle.buf.proofs.Place.{stayed, entry, Entered, Post, place-meets}
@@ -57,12 +57,12 @@ code callee = record {
   lifetimes = 1;
   outlives = [];
   params = 2;
-  locals = local S′.mir valueLocal ∷ local (sliceTy (tyRef (named 0) imm (tyInt w8))) valueLocal ∷ local (tyInt w64) valueLocal ∷ local (T′.mir erased) valueLocal ∷ [];
+  locals = local ReadLaws.mir valueLocal ∷ local (sliceTy (tyRef (named 0) imm (tyInt w8))) valueLocal ∷ local (tyInt w64) valueLocal ∷ local (BufLaws.mir erased) valueLocal ∷ [];
   body = seq (call #buf·at-place (copy (place 1 []) ∷ copy (place 2 []) ∷ []) (place 3 [])) (seq (call callee (copy (place 3 []) ∷ []) (place 0 [])) return);
 }
 
 abbrev found-slot : Slot 1
-found-slot = plain (λ _. S.the-row)
+found-slot = plain (λ _. ReadType.the-row)
 
 module _ (find : List ℕ → ℕ → Read) (callee : Name) where
   -- a clause that follows from the result's being what `find` gives at the place
@@ -80,8 +80,8 @@ module _ (find : List ℕ → ℕ → Read) (callee : Name) where
     module _ (W : Given 𝓤 H A) (c : Clauses 𝓤 of-place) (so : Says 𝓤 c) where
       module _ (κ : Lft) (q : Share) (s : RefT (List ℕ)) (n : ℕ) (ok : n < 2 ^ 64) (g : c (κ, tt) (s, (n, tt)) .ghost) where
         -- the machine value that s has
-        abbrev v : Val
-        v = slice-value s
+        abbrev bytes-value : Val
+        bytes-value = slice-value s
 
         abbrev found : Read
         found = find (now s) n
@@ -91,16 +91,16 @@ module _ (find : List ℕ → ℕ → Read) (callee : Name) where
         αᵉ = record { mir = erased; lft = κ }
 
         abbrev Own : Fml
-        Own = ShrSlice (named 0) κ u8 .own s (v ∷ [])
+        Own = ShrSlice (named 0) κ u8 .own s (bytes-value ∷ [])
 
         -- the call of `at_place`: what it is passed, and what it asks
         abbrev to-make : Make .Ghost
-        to-make = (((κ, tt), (q, tt), tt, (s, (n, tt)), (v ∷ [], (vint w64 n ∷ [], tt))), tt)
+        to-make = (((κ, tt), (q, tt), tt, (s, (n, tt)), (bytes-value ∷ [], (vint w64 n ∷ [], tt))), tt)
 
         goes-make : ent 𝓤 (Entered found-slot 𝓤 H A c κ q s n g) (sep 𝓤 (Make .pre to-make) (sem 𝓤 H A Own))
         goes-make =
-            qed W ((‵ (flft κ q) ⊛ ‵ ftrue) ∷ ‵ (owns (ShrSlice (named 0) κ u8 ∷ usize ∷ []) (s, (n, tt)) (v ∷ [], (vint w64 n ∷ [], tt))) ∷ []) ∵
-            move ! (1 ∷ []) $ fsplit ! $ use1 W (‵ Own ⊛ ‵ Own) (shr-slice-copy 𝓤 H A W (named 0) κ u8 .twice s (v ∷ [])) $ split ! $
+            qed W ((‵ (flft κ q) ⊛ ‵ ftrue) ∷ ‵ (owns (ShrSlice (named 0) κ u8 ∷ usize ∷ []) (s, (n, tt)) (bytes-value ∷ [], (vint w64 n ∷ [], tt))) ∷ []) ∵
+            move ! (1 ∷ []) $ fsplit ! $ use1 W (‵ Own ⊛ ‵ Own) (shr-slice-copy 𝓤 H A W (named 0) κ u8 .twice s (bytes-value ∷ [])) $ split ! $
             move ! (0 ∷ 2 ∷ []) $ fjoin ! $ move ! (2 ∷ 0 ∷ []) $ use2 W (raw (Make .pre to-make)) (asks-nothing 𝓤 _) $ frame ! $ done !
 
         -- the call of the callee, at the reader r with the machine value u
@@ -110,31 +110,31 @@ module _ (find : List ℕ → ℕ → Read) (callee : Name) where
         goes-read : (r : Buf) (u : Val) → ent 𝓤 (⋆ 𝓤 H A (‵ (Reader (κ, tt) .own r (u ∷ [])) ∷ (‵ (flft κ q) ⊛ ‵ ftrue) ∷ [])) (Reads .pre (to-read r u))
         goes-read r u = qed W (‵ (Reader (κ, tt) .own r (u ∷ [])) ∷ (‵ (flft κ q) ⊛ ‵ ftrue) ∷ []) ∵ nothing ! $ move ! (1 ∷ 0 ∷ []) $ fjoin ! $ move ! (1 ∷ 0 ∷ []) $ join ! $ frame ! $ done !
 
-        exits : (t : Read) (u : Val) → t ≡ found → ent 𝓤 (⋆ 𝓤 H A (‵ (S.the-row .own t (u ∷ [])) ∷ (‵ (flft κ q) ⊛ ‵ ftrue) ∷ ‵ Own ∷ [])) (Post found-slot 𝓤 H A c κ q s n g u)
+        exits : (t : Read) (u : Val) → t ≡ found → ent 𝓤 (⋆ 𝓤 H A (‵ (ReadType.the-row .own t (u ∷ [])) ∷ (‵ (flft κ q) ⊛ ‵ ftrue) ∷ ‵ Own ∷ [])) (Post found-slot 𝓤 H A c κ q s n g u)
         exits t u e =
-            qed W (‵ (S.the-row .own t (u ∷ [])) ∷ (‵ (flft κ q) ⊛ ‵ ftrue) ∷ ‵ Own ∷ []) ∵
+            qed W (‵ (ReadType.the-row .own t (u ∷ [])) ∷ (‵ (flft κ q) ⊛ ‵ ftrue) ∷ ‵ Own ∷ []) ∵
             suffices ! _ (ends-at 𝓤 H A of-place (stayed found-slot) c W (entry found-slot 𝓤 H A c κ q s n g) u t (tt, (tt, tt)) (tt, (tt, tt))) $ suffices ! _ (adds 𝓤 _ _ (so (κ, tt) (s, (n, tt)) g t _ e)) $
             move ! (1 ∷ []) $ frame ! $ nothing ! $ owned ! usize (Is usize) (uint-makes 𝓤 H A W w64) n _ (refl, ok) $ fjoin ! $ move ! (2 ∷ 0 ∷ []) $ fjoin ! $ frame ! $ done !
 
         module _ (C : Calls 𝓤 H) (Λ : Loops 𝓤 H) (fm : FmC 𝓤 H (W .laws) C) (known-make : Triple 𝓤 (C #buf·at-place) Make) (known-read : Triple 𝓤 (C callee) Reads) where
-          walk : Is (ShrSlice (named 0) κ u8) s (v ∷ []) → ent 𝓤 (Entered found-slot 𝓤 H A c κ q s n g) (WpFn 𝓤 H C Λ (code callee) (v ∷ vint w64 n ∷ []) (Post found-slot 𝓤 H A c κ q s n g))
+          walk : Is (ShrSlice (named 0) κ u8) s (bytes-value ∷ []) → ent 𝓤 (Entered found-slot 𝓤 H A c κ q s n g) (WpFn 𝓤 H C Λ (code callee) (bytes-value ∷ vint w64 n ∷ []) (Post found-slot 𝓤 H A c κ q s n g))
           walk p =
-              qed W (raw (Entered found-slot 𝓤 H A c κ q s n g) ∷ []) ∵ enter ! C Λ (code callee) (v ∷ vint w64 n ∷ []) _ $
-              alloc1 ! (λ l₀. alloc1 ! (λ l₁. alloc1 ! (λ l₂. alloc1 ! (λ l₃. alloc0 ! $ params1 ! $ pass1 ! (init ! 4 refl (shr-slice-lawful 𝓤 H A W (named 0) κ u8 .typed s (v ∷ []) p .0)) $ pass1 ! (init ! 2 refl (tt, record { fits = ok })) $ pass0 ! $
+              qed W (raw (Entered found-slot 𝓤 H A c κ q s n g) ∷ []) ∵ enter ! C Λ (code callee) (bytes-value ∷ vint w64 n ∷ []) _ $
+              alloc1 ! (λ l₀. alloc1 ! (λ l₁. alloc1 ! (λ l₂. alloc1 ! (λ l₃. alloc0 ! $ params1 ! $ pass1 ! (init ! 4 refl (shr-slice-lawful 𝓤 H A W (named 0) κ u8 .typed s (bytes-value ∷ []) p .0)) $ pass1 ! (init ! 2 refl (tt, record { fits = ok })) $ pass0 ! $
               move ! (8 ∷ []) $ use1 W (raw (Make .pre to-make) ⊛ ‵ Own) goes-make $ split ! $
               calls-at ! fm Make known-make to-make (and-then ! (load ! (from ! (stop !)) (look ! 6 refl)) (and-then ! (load ! (from ! (stop !)) (look ! 4 refl)) (no-more !))) (λ u.
               use1 W (later (some (λ (r : Buf). ((‵ (flft κ q) ⊛ ‵ ftrue) ⊛ ‵ (Reader (κ, tt) .own r (u ∷ []))) ⊛ raw (ensured 𝓤 H A make.ended (make.clauses 𝓤 H A mem run) (κ, tt) (s, (n, tt)) tt r)))) (id⊢ 𝓤 _) $ await ! tt $ pick ! (λ r.
               split ! $ move ! (1 ∷ []) $ use1 W (raw (fact 𝓤 ((r .inner ≡ s) × (r .pos ≡ n)))) (clause-alone 𝓤 H A make.ended (κ, tt) (s, (n, tt)) _) $ heard ! ((r .inner ≡ s) × (r .pos ≡ n)) (λ e. split ! $ move ! (1 ∷ []) $
               -- [what the reader owns; the token; what s owns; room for _3; …; _2; …; _1; …; room for _0; …]
               peeks ! (Reader (κ, tt)) (Is (Reader (κ, tt))) (shows 𝓤 H A (Reader (κ, tt))) r (u ∷ []) (λ is.
-              land ! (from ! (stop !)) (init ! 3 refl (LL.lawful (T.the-type αᵉ) (T′.the-laws αᵉ) 𝓤 H A W .typed r _ is .0)) $
+              land ! (from ! (stop !)) (init ! 3 refl (LL.lawful (BufType.the-type αᵉ) (BufLaws.the-laws αᵉ) 𝓤 H A W .typed r _ is .0)) $
               use2 W (raw (Reads .pre (to-read r u))) (goes-read r u) $
               calls-at ! fm Reads known-read (to-read r u) (and-then ! (load ! (from ! (stop !)) (look ! 2 refl)) (no-more !)) (λ u′.
-              use1 W (later (some (λ (t : Read). ((‵ (flft κ q) ⊛ ‵ ftrue) ⊛ ‵ (S.the-row .own t (u′ ∷ []))) ⊛ raw (ensured 𝓤 H A of-reader (reader-clauses find 𝓤) (κ, tt) (r, tt) tt t)))) (id⊢ 𝓤 _) $ await ! tt $ pick ! (λ t.
+              use1 W (later (some (λ (t : Read). ((‵ (flft κ q) ⊛ ‵ ftrue) ⊛ ‵ (ReadType.the-row .own t (u′ ∷ []))) ⊛ raw (ensured 𝓤 H A of-reader (reader-clauses find 𝓤) (κ, tt) (r, tt) tt t)))) (id⊢ 𝓤 _) $ await ! tt $ pick ! (λ t.
               split ! $ move ! (1 ∷ []) $ use1 W (raw (fact 𝓤 (t ≡ find (now (r .inner)) (r .pos)))) (clause-alone 𝓤 H A of-reader (κ, tt) (r, tt) _) $ heard ! (t ≡ find (now (r .inner)) (r .pos)) (λ e′. split ! $ move ! (1 ∷ []) $
               -- [the result; the token; what s owns; _3; …; _2; …; _1; …; room for _0; …]
-              peeks ! S.the-row (Is S.the-row) (shows 𝓤 H A S.the-row) t (u′ ∷ []) (λ is′.
-              land ! (from ! (stop !)) (init ! 9 refl (EL.lawful S.the-type S′.the-laws 𝓤 H A W tt .typed t _ is′ .0)) $
+              peeks ! ReadType.the-row (Is ReadType.the-row) (shows 𝓤 H A ReadType.the-row) t (u′ ∷ []) (λ is′.
+              land ! (from ! (stop !)) (init ! 9 refl (EL.lawful ReadType.the-type ReadLaws.the-laws 𝓤 H A W tt .typed t _ is′ .0)) $
               returns ! (look ! 9 refl) $ forget ! 3 refl $ forget ! 5 refl $ forget ! 7 refl $ forget ! 9 refl $ move ! (9 ∷ 10 ∷ []) $ free1 ! $ move ! (7 ∷ 8 ∷ []) $ free1 ! $ move ! (5 ∷ 6 ∷ []) $ free1 ! $ move ! (3 ∷ 4 ∷ []) $ free1 ! $ free0 ! $
               by ! (exits t u′ (e′ ∙ (ap (λ (x : RefT (List ℕ)). find (now x) (r .pos)) (e .0) ∙ ap (find (now s)) (e .1))))))))))))))))
 

@@ -40,10 +40,10 @@ use denote.Exit.{yes}
 use denote.Triple.Clauses.{Clauses, closing, ensured}
 use Rattle.buf.specs.declared.Buf.{Buf}
 use Rattle.buf.specs.declared.Read.{Read}
-use Rattle.buf.proofs.Buf as T
-use Rattle.buf.proofs.Buf.Laws as T′
-use Rattle.buf.proofs.Read as S
-use Rattle.buf.proofs.Read.Laws as S′
+use Rattle.buf.proofs.Buf as BufType
+use Rattle.buf.proofs.Buf.Laws as BufLaws
+use Rattle.buf.proofs.Read as ReadType
+use Rattle.buf.proofs.Read.Laws as ReadLaws
 use Rattle.buf.proofs.Contracts.{Reader, of-place, of-reader, place-clauses, OfPlace, Follows, adds, asks-nothing, clause-alone}
 use Rattle.buf.proofs.Reader.{slice-value, SliceOwn, ReaderOwn, slice-too}
 
@@ -53,7 +53,7 @@ code callee = record {
   lifetimes = 1;
   outlives = [];
   params = 1;
-  locals = local S′.mir valueLocal ∷ local (T′.mir (named 0)) valueLocal ∷ local (sliceTy (tyRef erased imm (tyInt w8))) valueLocal ∷ local (tyInt w64) valueLocal ∷ [];
+  locals = local ReadLaws.mir valueLocal ∷ local (BufLaws.mir (named 0)) valueLocal ∷ local (sliceTy (tyRef erased imm (tyInt w8))) valueLocal ∷ local (tyInt w64) valueLocal ∷ [];
   body = seq (assign (place 2 []) (rvOpd (copy (place 1 (field 0 ∷ []))))) (seq (assign (place 3 []) (rvOpd (copy (place 1 (field 1 ∷ [])))))
       (seq (call callee (copy (place 2 []) ∷ copy (place 3 []) ∷ []) (place 0 [])) return));
 }
@@ -76,14 +76,14 @@ module _ (find : List ℕ → ℕ → Read) where
 
     module _ (callee : Name) where
       module _ (κ : Lft) (q : Share) (d : Buf) (g : c (κ, tt) (d, tt) .ghost) where
-        abbrev mach : Val
-        mach = T′.lowered d
+        abbrev reader-value : Val
+        reader-value = BufLaws.lowered d
 
         abbrev found : Read
         found = find (now (d .inner)) (d .pos)
 
         abbrev Post : Val → SProp 𝓤
-        Post = walkOf 𝓤 H A of-reader stayed c .post (((κ, tt), (q, tt), tt, (d, tt), (mach ∷ [], tt)), g)
+        Post = walkOf 𝓤 H A of-reader stayed c .post (((κ, tt), (q, tt), tt, (d, tt), (reader-value ∷ [], tt)), g)
 
         abbrev Own : Fml
         Own = ReaderOwn (α κ) d
@@ -92,45 +92,45 @@ module _ (find : List ℕ → ℕ → Read) where
         abbrev passed : Vals (of-place .signature) (κ, tt)
         passed = (slice-value (d .inner) ∷ [], (vint w64 (d .pos) ∷ [], tt))
 
-        abbrev to : Callee .Ghost
-        to = (((κ, tt), (q, tt), tt, (d .inner, (d .pos, tt)), passed), tt)
+        abbrev to-callee : Callee .Ghost
+        to-callee = (((κ, tt), (q, tt), tt, (d .inner, (d .pos, tt)), passed), tt)
 
         -- what the reader owns gives what the callee asks, and is kept
-        apart : d .pos < 2 ^ 64 → ent 𝓤 (onEntry 𝓤 H A (of-reader .signature) (κ, tt) (q, tt) (d, tt) (mach ∷ [], tt)) (sep 𝓤 (Callee .pre to) (sem 𝓤 H A Own))
-        apart fits =
-            qed W ((‵ (flft κ q) ⊛ ‵ ftrue) ∷ ‵ (owns (Reader (κ, tt) ∷ []) (d, tt) (mach ∷ [], tt)) ∷ []) ∵
+        taken-apart : d .pos < 2 ^ 64 → ent 𝓤 (onEntry 𝓤 H A (of-reader .signature) (κ, tt) (q, tt) (d, tt) (reader-value ∷ [], tt)) (sep 𝓤 (Callee .pre to-callee) (sem 𝓤 H A Own))
+        taken-apart fits =
+            qed W ((‵ (flft κ q) ⊛ ‵ ftrue) ∷ ‵ (owns (Reader (κ, tt) ∷ []) (d, tt) (reader-value ∷ [], tt)) ∷ []) ∵
             move ! (1 ∷ []) $ fsplit ! $ move ! (1 ∷ []) $ drop ! $ use1 W (‵ (SliceOwn (α κ) (d .inner)) ⊛ ‵ Own) (slice-too (α κ) 𝓤 H A W d) $ split ! $
             -- [what the slice owns; what the reader owns; the token]
             nothing ! $ owned ! usize (Is usize) (uint-makes 𝓤 H A W w64) (d .pos) _ (refl, fits) $ fjoin ! $ move ! (1 ∷ 0 ∷ []) $ fjoin ! $
-            move ! (2 ∷ 0 ∷ []) $ use2 W (raw (Callee .pre to)) (asks-nothing 𝓤 _) $ frame ! $ done !
+            move ! (2 ∷ 0 ∷ []) $ use2 W (raw (Callee .pre to-callee)) (asks-nothing 𝓤 _) $ frame ! $ done !
 
-        exits : (r : Read) (u : Val) → r ≡ found → ent 𝓤 (⋆ 𝓤 H A (‵ (S.the-row .own r (u ∷ [])) ∷ (‵ (flft κ q) ⊛ ‵ ftrue) ∷ ‵ Own ∷ [])) (Post u)
+        exits : (r : Read) (u : Val) → r ≡ found → ent 𝓤 (⋆ 𝓤 H A (‵ (ReadType.the-row .own r (u ∷ [])) ∷ (‵ (flft κ q) ⊛ ‵ ftrue) ∷ ‵ Own ∷ [])) (Post u)
         exits r u e =
-            qed W (‵ (S.the-row .own r (u ∷ [])) ∷ (‵ (flft κ q) ⊛ ‵ ftrue) ∷ ‵ Own ∷ []) ∵
-            suffices ! _ (ends-at 𝓤 H A of-reader stayed c W (((κ, tt), (q, tt), tt, (d, tt), (mach ∷ [], tt)), g) u r (tt, tt) (tt, tt)) $ suffices ! _ (adds 𝓤 _ _ (so (κ, tt) (d, tt) g r _ e)) $
+            qed W (‵ (ReadType.the-row .own r (u ∷ [])) ∷ (‵ (flft κ q) ⊛ ‵ ftrue) ∷ ‵ Own ∷ []) ∵
+            suffices ! _ (ends-at 𝓤 H A of-reader stayed c W (((κ, tt), (q, tt), tt, (d, tt), (reader-value ∷ [], tt)), g) u r (tt, tt) (tt, tt)) $ suffices ! _ (adds 𝓤 _ _ (so (κ, tt) (d, tt) g r _ e)) $
             move ! (1 ∷ []) $ frame ! $ nothing ! $ move ! (2 ∷ 0 ∷ []) $ fjoin ! $ frame ! $ done !
 
         module _ (C : Calls 𝓤 H) (Λ : Loops 𝓤 H) (fm : FmC 𝓤 H (W .laws) C) (known : Triple 𝓤 (C callee) Callee) where
-          walk : Holds (hasTy (T′.mir (named 0)) mach) × WT mach
-              → ent 𝓤 (onEntry 𝓤 H A (of-reader .signature) (κ, tt) (q, tt) (d, tt) (mach ∷ [], tt)) (WpFn 𝓤 H C Λ (code callee) (mach ∷ []) Post)
+          walk : Holds (hasTy (BufLaws.mir (named 0)) reader-value) × WT reader-value
+              → ent 𝓤 (onEntry 𝓤 H A (of-reader .signature) (κ, tt) (q, tt) (d, tt) (reader-value ∷ [], tt)) (WpFn 𝓤 H C Λ (code callee) (reader-value ∷ []) Post)
           walk wt =
-              qed W (raw (onEntry 𝓤 H A (of-reader .signature) (κ, tt) (q, tt) (d, tt) (mach ∷ [], tt)) ∷ []) ∵ enter ! C Λ (code callee) (mach ∷ []) _ $
+              qed W (raw (onEntry 𝓤 H A (of-reader .signature) (κ, tt) (q, tt) (d, tt) (reader-value ∷ [], tt)) ∷ []) ∵ enter ! C Λ (code callee) (reader-value ∷ []) _ $
               alloc1 ! (λ l₀. alloc1 ! (λ l₁. alloc1 ! (λ l₂. alloc1 ! (λ l₃. alloc0 ! $ params1 ! $ pass1 ! (init ! 4 refl wt) $ pass0 ! $
               assigns ! (of-opd ! (load ! (from ! (fld ! refl (stop !))) (look-in ! 4 (sub ! 0 refl (whole !))))) (from ! (stop !)) (init ! 2 refl (tt, wt .1 .0)) $
               assigns ! (of-opd ! (load ! (from ! (fld ! refl (stop !))) (look-in ! 4 (sub ! 1 refl (whole !))))) (from ! (stop !)) (init ! 0 refl (tt, wt .1 .1 .0)) $
-              move ! (8 ∷ []) $ use1 W (raw (Callee .pre to) ⊛ ‵ Own) (apart (wt .1 .1 .0 .fits)) $ split ! $
-              calls-at ! fm Callee known to (and-then ! (load ! (from ! (stop !)) (look ! 4 refl)) (and-then ! (load ! (from ! (stop !)) (look ! 2 refl)) (no-more !))) (λ u.
-              use1 W (later (some (λ (r : Read). ((‵ (flft κ q) ⊛ ‵ ftrue) ⊛ ‵ (S.the-row .own r (u ∷ []))) ⊛ raw (ensured 𝓤 H A of-place (place-clauses find 𝓤) (κ, tt) (d .inner, (d .pos, tt)) tt r)))) (id⊢ 𝓤 _) $ await ! tt $ pick ! (λ r.
+              move ! (8 ∷ []) $ use1 W (raw (Callee .pre to-callee) ⊛ ‵ Own) (taken-apart (wt .1 .1 .0 .fits)) $ split ! $
+              calls-at ! fm Callee known to-callee (and-then ! (load ! (from ! (stop !)) (look ! 4 refl)) (and-then ! (load ! (from ! (stop !)) (look ! 2 refl)) (no-more !))) (λ u.
+              use1 W (later (some (λ (r : Read). ((‵ (flft κ q) ⊛ ‵ ftrue) ⊛ ‵ (ReadType.the-row .own r (u ∷ []))) ⊛ raw (ensured 𝓤 H A of-place (place-clauses find 𝓤) (κ, tt) (d .inner, (d .pos, tt)) tt r)))) (id⊢ 𝓤 _) $ await ! tt $ pick ! (λ r.
               split ! $ move ! (1 ∷ []) $ use1 W (raw (fact 𝓤 (r ≡ found))) (clause-alone 𝓤 H A of-place (κ, tt) (d .inner, (d .pos, tt)) _) $ heard ! (r ≡ found) (λ e. split ! $ move ! (1 ∷ []) $
               -- [the result; the token; what the reader owns; _3; …; _2; …; _1; …; room for _0; …]
-              peeks ! S.the-row (Is S.the-row) (shows 𝓤 H A S.the-row) r (u ∷ []) (λ is.
-              land ! (from ! (stop !)) (init ! 9 refl (EL.lawful S.the-type S′.the-laws 𝓤 H A W tt .typed r _ is .0)) $
+              peeks ! ReadType.the-row (Is ReadType.the-row) (shows 𝓤 H A ReadType.the-row) r (u ∷ []) (λ is.
+              land ! (from ! (stop !)) (init ! 9 refl (EL.lawful ReadType.the-type ReadLaws.the-laws 𝓤 H A W tt .typed r _ is .0)) $
               returns ! (look ! 9 refl) $ forget ! 3 refl $ forget ! 5 refl $ forget ! 7 refl $ forget ! 9 refl $
               move ! (9 ∷ 10 ∷ []) $ free1 ! $ move ! (7 ∷ 8 ∷ []) $ free1 ! $ move ! (5 ∷ 6 ∷ []) $ free1 ! $ move ! (3 ∷ 4 ∷ []) $ free1 ! $ free0 ! $ by ! (exits r u e)))))))))
 
       walks : (C : Calls 𝓤 H) (Λ : Loops 𝓤 H) → FmC 𝓤 H (W .laws) C → Triple 𝓤 (C callee) Callee → Walks 𝓤 H A of-reader stayed (WpFn 𝓤 H C Λ (code callee)) c
-      walks C Λ fm known = walked 𝓤 H A of-reader stayed c (WpFn 𝓤 H C Λ (code callee)) (λ κs. (LL.vals (T.the-type (α (κs .0))) (T′.the-laws (α (κs .0))), tt)) (λ κs. (LL.tells (T.the-type (α (κs .0))) (T′.the-laws (α (κs .0))), tt))
-          (λ κs qs bounds a g are. via 𝓤 _ (fst∗ 𝓤 _ (c κs a .requires g)) (walk (κs .0) (qs .0) (a .0) g C Λ fm known (LL.lawful (T.the-type (α (κs .0))) (T′.the-laws (α (κs .0))) 𝓤 H A W .typed (a .0) _ (are .0) .0)))
+      walks C Λ fm known = walked 𝓤 H A of-reader stayed c (WpFn 𝓤 H C Λ (code callee)) (λ κs. (LL.vals (BufType.the-type (α (κs .0))) (BufLaws.the-laws (α (κs .0))), tt)) (λ κs. (LL.tells (BufType.the-type (α (κs .0))) (BufLaws.the-laws (α (κs .0))), tt))
+          (λ κs qs bounds a g are. via 𝓤 _ (fst∗ 𝓤 _ (c κs a .requires g)) (walk (κs .0) (qs .0) (a .0) g C Λ fm known (LL.lawful (BufType.the-type (α (κs .0))) (BufLaws.the-laws (α (κs .0))) 𝓤 H A W .typed (a .0) _ (are .0) .0)))
 
       meets : (𝓣 : Tables 𝓤 H) → Triple 𝓤 (𝓣 .C callee) Callee → Triple 𝓤 (WpFn 𝓤 H (𝓣 .C) (𝓣 .Λ) (code callee)) (tripleOf 𝓤 H A (of-reader .signature) (closing 𝓤 H A of-reader c))
       meets 𝓣 known = walk-meets 𝓤 H A of-reader stayed W (goes-none 𝓤 H A W 1 Reader yes (λ κs x f. refl), tt) c (WpFn 𝓤 H (𝓣 .C) (𝓣 .Λ) (code callee)) (WpFn-mono 𝓤 H (W .laws) 𝓣 (code callee))

@@ -64,11 +64,11 @@ module _ (bpp w h n : ℕ) (is : bytes n ≡ sizeOf (checked bpp w h)) where
   unfolding checked sizeOf accept
   sized = depth (leb 4 (depthIndex bpp)) refl
     where
-      no : (r : Refusal) → sizeOf (checked bpp w h) ≡ refused r → Sized bpp w h n
-      no r e = absurd (clash n r (is ∙ e))
+      impossible : (r : Refusal) → sizeOf (checked bpp w h) ≡ refused r → Sized bpp w h n
+      impossible r e = absurd (clash n r (is ∙ e))
 
       fits : leb 4 (depthIndex bpp) ≡ false → eqb w 0 ≡ false → eqb h 0 ≡ false → ltb 8192 w ≡ false → (b : Bool) → ltb 8192 h ≡ b → Sized bpp w h n
-      fits p q r s true e = no (refusal 3 w h) (rw (p, q, r, s, e))
+      fits p q r s true e = impossible (refusal 3 w h) (rw (p, q, r, s, e))
       fits p q r s false e =
           let c : checked bpp w h ≡ accept (depthOf bpp) w h = rw (p, q, r, s, e) in
           let k : depthIndex bpp < 4 = leb-false 4 (depthIndex bpp) p in
@@ -84,19 +84,19 @@ module _ (bpp w h n : ℕ) (is : bytes n ≡ sizeOf (checked bpp w h)) where
           }
 
       width : leb 4 (depthIndex bpp) ≡ false → eqb w 0 ≡ false → eqb h 0 ≡ false → (b : Bool) → ltb 8192 w ≡ b → Sized bpp w h n
-      width p q r true e = no (refusal 3 w h) (rw (p, q, r, e))
+      width p q r true e = impossible (refusal 3 w h) (rw (p, q, r, e))
       width p q r false e = fits p q r e (ltb 8192 h) refl
 
       no-height : leb 4 (depthIndex bpp) ≡ false → eqb w 0 ≡ false → (b : Bool) → eqb h 0 ≡ b → Sized bpp w h n
-      no-height p q true e = no (refusal 2 0 0) (rw (p, q, e))
+      no-height p q true e = impossible (refusal 2 0 0) (rw (p, q, e))
       no-height p q false e = width p q e (ltb 8192 w) refl
 
       no-width : leb 4 (depthIndex bpp) ≡ false → (b : Bool) → eqb w 0 ≡ b → Sized bpp w h n
-      no-width p true e = no (refusal 2 0 0) (rw (p, e))
+      no-width p true e = impossible (refusal 2 0 0) (rw (p, e))
       no-width p false e = no-height p e (eqb h 0) refl
 
       depth : (b : Bool) → leb 4 (depthIndex bpp) ≡ b → Sized bpp w h n
-      depth true e = no (refusal 1 bpp 0) (rw e)
+      depth true e = impossible (refusal 1 bpp 0) (rw e)
       depth false e = no-width e (eqb w 0) refl
 
 pub few : {w h : ℕ} → w ≤ 8192 → h ≤ 8192 → w * h ≤ 67108864

@@ -28,7 +28,7 @@ use denote.Triple.Spec.{Meets, tripleOf}
 use denote.Triple.Table.{entered}
 use denote.Triple.Walked.{says, ends-at}
 use Rattle.buf.specs.declared.Buf.{Buf}
-use Rattle.buf.proofs.Buf.Laws as T′
+use Rattle.buf.proofs.Buf.Laws as BufLaws
 use Rattle.buf.proofs.Contracts.{Reader}
 use Rattle.buf.proofs.Reader.{slice-value, SliceOwn, ReaderOwn, reader-too}
 use Rattle.buf.proofs.Place.{stayed, entry, Entered, Post, place-meets}
@@ -45,8 +45,8 @@ module _ {M : Type 1} (𝓤 : URA M) (H : Heap 𝓤) (A : Atoms 𝓤) (W : Given
   α = namedLft 1 0 tt (κ, tt)
 
   -- the machine value that s has
-  abbrev v : Val
-  v = slice-value s
+  abbrev bytes-value : Val
+  bytes-value = slice-value s
 
   abbrev made : Buf
   made = record { inner = s; pos = n }
@@ -60,18 +60,18 @@ module _ {M : Type 1} (𝓤 : URA M) (H : Heap 𝓤) (A : Atoms 𝓤) (W : Given
   abbrev Own : Fml
   Own = SliceOwn α s
 
-  exits : ent 𝓤 Before (After (T′.lowered made))
+  exits : ent 𝓤 Before (After (BufLaws.lowered made))
   exits =
-      qed W ((‵ (flft κ q) ⊛ ‵ ftrue) ∷ ‵ (owns (ShrSlice (named 0) κ u8 ∷ usize ∷ []) (s, (n, tt)) (v ∷ [], (vint w64 n ∷ [], tt))) ∷ []) ∵
-      suffices ! _ (ends-at 𝓤 H A this.ended (stayed made-slot) (this.clauses 𝓤 H A mem run) W (entry made-slot 𝓤 H A (this.clauses 𝓤 H A mem run) κ q s n tt) (T′.lowered made) made (tt, (tt, tt)) (tt, (tt, tt))) $ says ! (refl, refl) $
+      qed W ((‵ (flft κ q) ⊛ ‵ ftrue) ∷ ‵ (owns (ShrSlice (named 0) κ u8 ∷ usize ∷ []) (s, (n, tt)) (bytes-value ∷ [], (vint w64 n ∷ [], tt))) ∷ []) ∵
+      suffices ! _ (ends-at 𝓤 H A this.ended (stayed made-slot) (this.clauses 𝓤 H A mem run) W (entry made-slot 𝓤 H A (this.clauses 𝓤 H A mem run) κ q s n tt) (BufLaws.lowered made) made (tt, (tt, tt)) (tt, (tt, tt))) $ says ! (refl, refl) $
       frame ! $ fsplit ! $ use1 W (‵ Own ⊛ ‵ (ReaderOwn α made)) (reader-too α 𝓤 H A W s n ok) $ split ! $ move ! (0 ∷ 2 ∷ []) $ fjoin ! $ frame ! $ done !
 
   module _ (C : Calls 𝓤 H) (Λ : Loops 𝓤 H) where
-    walk : Is (ShrSlice (named 0) κ u8) s (v ∷ []) → ent 𝓤 Before (WpFn 𝓤 H C Λ code.function (v ∷ vint w64 n ∷ []) After)
+    walk : Is (ShrSlice (named 0) κ u8) s (bytes-value ∷ []) → ent 𝓤 Before (WpFn 𝓤 H C Λ code.function (bytes-value ∷ vint w64 n ∷ []) After)
     walk p =
-        qed W (raw Before ∷ []) ∵ enter ! C Λ code.function (v ∷ vint w64 n ∷ []) _ $
-        alloc1 ! (λ l₀. alloc1 ! (λ l₁. alloc1 ! (λ l₂. alloc0 ! $ params1 ! $ pass1 ! (init ! 2 refl (shr-slice-lawful 𝓤 H A W (named 0) κ u8 .typed s (v ∷ []) p .0)) $ pass1 ! (init ! 0 refl (tt, record { fits = ok })) $ pass0 ! $
-        assigns ! (agg ! (and-then ! (load ! (from ! (stop !)) (look ! 2 refl)) (and-then ! (load ! (from ! (stop !)) (look ! 0 refl)) (no-more !)))) (from ! (stop !)) (init ! 4 refl (tt, (shr-slice-lawful 𝓤 H A W (named 0) κ u8 .typed s (v ∷ []) p .0 .1, (record { fits = ok }, tt)))) $
+        qed W (raw Before ∷ []) ∵ enter ! C Λ code.function (bytes-value ∷ vint w64 n ∷ []) _ $
+        alloc1 ! (λ l₀. alloc1 ! (λ l₁. alloc1 ! (λ l₂. alloc0 ! $ params1 ! $ pass1 ! (init ! 2 refl (shr-slice-lawful 𝓤 H A W (named 0) κ u8 .typed s (bytes-value ∷ []) p .0)) $ pass1 ! (init ! 0 refl (tt, record { fits = ok })) $ pass0 ! $
+        assigns ! (agg ! (and-then ! (load ! (from ! (stop !)) (look ! 2 refl)) (and-then ! (load ! (from ! (stop !)) (look ! 0 refl)) (no-more !)))) (from ! (stop !)) (init ! 4 refl (tt, (shr-slice-lawful 𝓤 H A W (named 0) κ u8 .typed s (bytes-value ∷ []) p .0 .1, (record { fits = ok }, tt)))) $
         returns ! (look ! 4 refl) $ forget ! 0 refl $ forget ! 2 refl $ forget ! 4 refl $ move ! (4 ∷ 5 ∷ []) $ free1 ! $ move ! (2 ∷ 3 ∷ []) $ free1 ! $ free1 ! $ free0 ! $ by ! exits)))
 
 meets : {M : Type 1} (𝓤 : URA M) (H : Heap 𝓤) (A : Atoms 𝓤) → Given 𝓤 H A → (mem : Memory → SProp 𝓤) (run : Routine → Fun 𝓤) (𝓣 : Tables 𝓤 H)
