@@ -1,5 +1,7 @@
 pub mod Answers
+pub mod Reading
 pub mod Contracts
 pub mod From
 pub mod Peek
 pub mod Reader
+pub mod Place

@@ -22,8 +22,8 @@ use denote.Struct.Laws as LL
 use denote.Struct.Rest.{all-own, ownAt, rest, own-open, own-out, own-shut}
 use denote.Struct.Values.{Values}
 use Rattle.buf.specs.declared.Buf.{Buf}
-use Rattle.buf.proofs.Buf as T
-use Rattle.buf.proofs.Buf.Laws as T′
+use Rattle.buf.proofs.Buf as BufType
+use Rattle.buf.proofs.Buf.Laws as BufLaws
 
 -- the machine value of a slice
 abbrev pub slice-value : RefT (List ℕ) → Val
@@ -34,17 +34,17 @@ module _ (α : NamedLft) where
   SliceOwn s = ShrSlice (α .mir) (α .lft) u8 .own s (slice-value s ∷ [])
 
   abbrev pub ReaderOwn : Buf → Fml
-  ReaderOwn d = T.the-row α .own d (T′.lowered d ∷ [])
+  ReaderOwn d = BufType.the-row α .own d (BufLaws.lowered d ∷ [])
 
   module _ {M : Type 1} (𝓤 : URA M) (H : Heap 𝓤) (A : Atoms 𝓤) (W : Given 𝓤 H A) where
     -- a reader is kept, and what its slice owns is had too
     pub slice-too : (d : Buf) → ent 𝓤 (sem 𝓤 H A (ReaderOwn d)) (sep 𝓤 (sem 𝓤 H A (SliceOwn (d .inner))) (sem 𝓤 H A (ReaderOwn d)))
     slice-too d =
-        let D : Declared = T.the-type α in
-        let L : LL.Laws D = T′.the-laws α in
+        let D : Declared = BufType.the-type α in
+        let L : LL.Laws D = BufLaws.the-laws α in
         let fields : Values (D .parts) = (d .inner, (d .pos, tt)) in
-        let v : Val = T′.lowered d in
-        qed W (‵ (ReaderOwn d) ∷ []) ∵ use1 W (‵ (ReaderOwn d) ⊛ ‵ (ReaderOwn d)) (LL.copy D (T′.the-copy α) 𝓤 H A W .twice d (v ∷ [])) $ split ! $
+        let v : Val = BufLaws.lowered d in
+        qed W (‵ (ReaderOwn d) ∷ []) ∵ use1 W (‵ (ReaderOwn d) ⊛ ‵ (ReaderOwn d)) (LL.copy D (BufLaws.the-copy α) 𝓤 H A W .twice d (v ∷ [])) $ split ! $
         use1 W (given (v ∷ [] ≡ v ∷ []) (‵ (all-own (D .parts) L fields))) (own-open 𝓤 H A W D L fields v) $ learn ! (λ _.
         use1 W (‵ (ownAt (D .parts) L 0 (d .inner)) ⊛ ‵ (rest (D .parts) L 0 fields)) (own-out 𝓤 H A W (D .parts) L 0 fields) $ split ! $
         -- [what the slice owns; the facts of the place; what the reader owns]
@@ -54,4 +54,4 @@ module _ (α : NamedLft) where
     pub reader-too : (s : RefT (List ℕ)) (n : ℕ) → n < 2 ^ 64 → ent 𝓤 (sem 𝓤 H A (SliceOwn s)) (sep 𝓤 (sem 𝓤 H A (SliceOwn s)) (sem 𝓤 H A (ReaderOwn record { inner = s; pos = n })))
     reader-too s n fits =
         qed W (‵ (SliceOwn s) ∷ []) ∵ use1 W (‵ (SliceOwn s) ⊛ ‵ (SliceOwn s)) (shr-slice-copy 𝓤 H A W (α .mir) (α .lft) u8 .twice s (slice-value s ∷ [])) $ split ! $ frame ! $
-        nothing ! $ owned ! usize (Is usize) (uint-makes 𝓤 H A W w64) n _ (refl, fits) $ fjoin ! $ move ! (1 ∷ 0 ∷ []) $ fjoin ! $ by ! (own-shut 𝓤 H A W (T.the-type α) (T′.the-laws α) (s, (n, tt)))
+        nothing ! $ owned ! usize (Is usize) (uint-makes 𝓤 H A W w64) n _ (refl, fits) $ fjoin ! $ move ! (1 ∷ 0 ∷ []) $ fjoin ! $ by ! (own-shut 𝓤 H A W (BufType.the-type α) (BufLaws.the-laws α) (s, (n, tt)))

@@ -5,16 +5,16 @@ use mathlib.Core.Bool.{Bool, true, false}
 use Prim.Native.Nat.{ℕ, zero, suc, _+_, _*_, _≤_, _<_}
 use native.Mathlib.Nat.{mul-le-mul-right}
 use native.Mathlib.Numerals.{add-one}
-use native.Mathlib.Decide.{decLt}
 use native.Mathlib.Omega.{arith}
 use lib.Dec.{leb}
 use lib.ListN.{length}
 use borrow.Author.Tests.{leb-true}
+use Rattle.base.proofs.Tests.{before-or-last, apart}
 use Rattle.picture.specs.Sizes.{checked, depthOf, Size, bytes, refused, sizeOf, hasSpace}
 use Rattle.color.specs.Colors.{Triple, paletteFits}
 use Rattle.color.specs.SamePicture.{Picture, both, valid, colorAt, sameTriple, sameColors}
 use Rattle.color.specs.Contracts.{Expandable}
-use Rattle.color.proofs.Triples.{never, all-true}
+use Rattle.color.proofs.Triples.{all-true}
 use Rattle.picture.proofs.Sizes.{sized}
 
 both-false : (t : Bool) → both t false ≡ false
@@ -28,15 +28,12 @@ module _ (palette : List ℕ) (a b : Picture) where
   unfolding sameColors
   differ zero k h e = absurd (omega arith)
   differ (suc n) k h e =
-      elim (decLt k n) [
-        | yes l ↦ rw (differ n k l e)
-        | no l ↦
-            let i : k ≡ n = omega arith in
-            let d : sameTriple (colorAt palette a n) (colorAt palette b n) ≡ false = rw i at e in
-            rw d (both-false (sameColors palette a b n))
-      ]
+      before-or-last k n h (λ l. rw (differ n k l e))
+      (λ i.
+      let d : sameTriple (colorAt palette a n) (colorAt palette b n) ≡ false = rw i at e in
+      rw d (both-false (sameColors palette a b n)))
 
-  -- the colors s and t of pixel k, and what their comparison answered
+  -- the colors s and t of pixel k, and what their comparison gave
   module _ (k : ℕ) {s t : Triple} {r : Bool} (es : s ≡ colorAt palette a k) (et : t ≡ colorAt palette b k) (er : r ≡ sameTriple s t) where
     test : r ≡ sameTriple (colorAt palette a k) (colorAt palette b k)
     test = cc
@@ -54,7 +51,7 @@ module _ (palette : List ℕ) (p : Picture) where
   in-size : (z : Size) → z ≡ sizeOf (checked (p .bpp) (p .width) (p .height)) → hasSpace (length (p .slice)) z ≡ true
       → p .pixels ≤ p .width * p .height → paletteFits (p .bpp) palette ≡ true → Expandable palette (p .slice) (p .bpp) (p .pixels)
   unfolding hasSpace
-  in-size (refused r) e h few fits = never h
+  in-size (refused r) e h few fits = apart cc
   in-size (bytes n) e h few fits =
       let s = sized (p .bpp) (p .width) (p .height) n e in
       record {

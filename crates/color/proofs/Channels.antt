@@ -1,21 +1,28 @@
--- The channels of a pixel of two bytes: out of its number, as the definition takes them, and out of its bytes, as the code does.
--- Assumes nothing.
+-- The channels of a pixel of two bytes: out of its number, as the definition takes them, and out of its bytes, as the code does. The
+-- laws of green and red are over n, how many values green has. Assumes nothing.
 use mathlib.Core.Path.{_≡_}
-use Prim.Native.Nat.{ℕ, _+_, _*_, _/_, _%_, _<_}
+use mathlib.Core.Logic.{inl, inr}
+use Prim.Native.Nat.{ℕ, _+_, _*_, _/_, _%_, _≤_, _<_}
 use native.Mathlib.Omega.{arith}
+use Rattle.color.specs.Contracts.{ChannelValues}
 
-module _ (low high : ℕ) (l : low < 256) (h : high < 256) where
-  pub blue : (low + 256 * high) % 32 ≡ low % 32
-  blue = omega arith
+pub blue : (low high : ℕ) → (low + 256 * high) % 32 ≡ low % 32
+blue low high = omega arith
 
-  pub green15 : (low + 256 * high) / 32 % 32 ≡ low / 32 + high % 4 * 8
-  green15 = omega arith
+module _ {n : ℕ} (g : ChannelValues n) where
+  -- green's upper bits have n / 8 values
+  pub uppers : (4 ≤ n / 8) × (n ≤ 64)
+  uppers = elim g [ inl e ↦ rw e (omega arith, omega arith) | inr e ↦ rw e (omega arith, omega arith) ]
 
-  pub red15 : (low + 256 * high) / 1024 % 32 ≡ high / 4 % 32
-  red15 = omega arith
+  pub channel-small : (c : ℕ) → c < n → 256 / n * c < 256
+  channel-small c h = elim g [ inl e ↦ rw e (omega (arith, rw e at h)) | inr e ↦ rw e (omega (arith, rw e at h)) ]
 
-  pub green16 : (low + 256 * high) / 32 % 64 ≡ low / 32 + high % 8 * 8
-  green16 = omega arith
+  module _ {low high : ℕ} (l : low < 256) (h : high < 256) where
+    pub green : (low + 256 * high) / 32 % n ≡ low / 32 + high % (n / 8) * 8
+    green = elim g [ inl e ↦ rw e (omega arith) | inr e ↦ rw e (omega arith) ]
 
-  pub red16 : (low + 256 * high) / 2048 % 32 ≡ high / 8
-  red16 = omega arith
+    pub green-small : low / 32 + high % (n / 8) * 8 < n
+    green-small = elim g [ inl e ↦ rw e (omega arith) | inr e ↦ rw e (omega arith) ]
+
+    pub red : (low + 256 * high) / (32 * n) % 32 ≡ high / (n / 8) % 32
+    red = elim g [ inl e ↦ rw e (omega arith) | inr e ↦ rw e (omega arith) ]

@@ -1,32 +1,28 @@
 -- `samePicture` says yes exactly if the pictures are alike. Assumes nothing.
 use mathlib.Core.Path.{_≡_, refl}
 use mathlib.Core.List.{List}
-use mathlib.Core.Bool.{Bool, true, false}
+use mathlib.Core.Bool.{true}
 use Prim.Native.Nat.{ℕ, zero, suc, _<_}
-use native.Mathlib.Decide.{decLt}
 use native.Mathlib.Omega.{arith}
 use lib.Dec.{eqb}
 use lib.ListN.{length}
 use borrow.Author.Tests.{eqb-true, eq-eqb}
-use Rattle.picture.specs.Pixels.{pick, pixelAt, firstPixel}
-use Rattle.color.specs.Colors.{Triple, colorOf, entry, expand15, expand16}
+use Rattle.base.proofs.Tests.{by-test, before-or-last, both-true}
+use Rattle.picture.specs.Pixels.{pixelAt, firstPixel}
+use Rattle.color.specs.Colors.{Triple, colorOf, entry, expandWord}
 use Rattle.color.specs.SamePicture.{Picture, Alike, both, valid, colorAt, sameTriple, sameColors, samePicture}
-use Rattle.color.proofs.Triples.{never, same-equal, equal-same}
-
-both-true : (a b : Bool) → both a b ≡ true → (a ≡ true) × (b ≡ true)
-both-true true b e = (refl, e)
-both-true false b e = never e
+use Rattle.color.proofs.Triples.{same-equal, equal-same}
 
 -- ---- colors are triples
 
-picked : (t : Bool) (x y : Triple) → length x ≡ 3 → length y ≡ 3 → length (pick t x y) ≡ 3
-picked true x y p q = p
-picked false x y p q = q
+abbrev Long : Triple → Type 0
+Long t = length t ≡ 3
 
 module _ (palette : List ℕ) (p : Picture) (k : ℕ) where
   triple : length (colorAt palette p k) ≡ 3
-  unfolding colorAt colorOf entry expand15 expand16 pixelAt firstPixel
-  triple = picked (eqb (p .bpp) 8) _ _ refl (picked (eqb (p .bpp) 15) _ _ refl (picked (eqb (p .bpp) 16) _ _ refl refl))
+  unfolding colorAt colorOf entry expandWord pixelAt firstPixel
+  triple =
+      by-test Long (eqb (p .bpp) 8) (λ _. refl) (λ _. by-test Long (eqb (p .bpp) 15) (λ _. refl) (λ _. by-test Long (eqb (p .bpp) 16) (λ _. refl) (λ _. refl)))
 
 -- ---- the painted pixels
 
@@ -39,12 +35,7 @@ module _ (palette : List ℕ) (a b : Picture) where
   colors-agree zero e k h = absurd (omega arith)
   colors-agree (suc n) e k h =
       let s = both-true (sameColors palette a b n) (sameTriple (colorAt palette a n) (colorAt palette b n)) e in
-      elim (decLt k n) [
-        | yes l ↦ colors-agree n (s .0) k l
-        | no l ↦
-            let i : k ≡ n = omega arith in
-            rw i (same-color n (s .1))
-      ]
+      before-or-last k n h (λ l. colors-agree n (s .0) k l) (λ i. rw i (same-color n (s .1)))
 
   agree-colors : (n : ℕ) → ((k : ℕ) → k < n → colorAt palette a k ≡ colorAt palette b k) → sameColors palette a b n ≡ true
   unfolding sameColors

@@ -1,22 +1,20 @@
 -- Laws of triples: the test by bytes is equality. Assumes nothing.
 use mathlib.Core.Path.{_≡_, refl, sym, _∙_}
 use mathlib.Core.List.{[], _∷_}
-use mathlib.Core.Bool.{Bool, true, false}
-use Prim.Native.Nat.{ℕ}
+use mathlib.Core.Bool.{Bool, true}
 use native.Mathlib.Omega.{arith}
 use lib.Dec.{eqb}
 use lib.ListN.{length, getD}
 use borrow.Author.Tests.{eq-eqb, eqb-true}
+use Rattle.base.proofs.Tests.{both-true}
 use Rattle.color.specs.Colors.{Triple}
 use Rattle.color.specs.SamePicture.{both, sameTriple}
 
-pub never : {A : Type 0} → false ≡ true → A
-never e = let z : _≡_ {A = ℕ} 0 1 = cc in absurd (omega arith)
-
 pub all-true : (a b c : Bool) → both a (both b c) ≡ true → (a ≡ true) × (b ≡ true) × (c ≡ true)
-all-true true true c e = (refl, refl, e)
-all-true true false c e = never e
-all-true false b c e = never e
+all-true a b c e =
+    let p = both-true a (both b c) e in
+    let q = both-true b c (p .1) in
+    (p .0, q .0, q .1)
 
 -- an array of three
 three : (t : Triple) → length t ≡ 3 → t ≡ getD t 0 0 ∷ getD t 1 0 ∷ getD t 2 0 ∷ []

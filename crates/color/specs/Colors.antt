@@ -1,12 +1,13 @@
 -- Expansion: one pixel becomes a blue, a green and a red byte, in this order; bytes that the depth does not use are ignored.
--- `expand` answers what `expanded` says, and same picture compares the same colors. The rule of each channel stands in one
--- place, `channel5` and `channel6`.
+-- `expand` gives what `expanded` says, and same picture compares the same colors. The rule of a channel stands in one place,
+-- `channel`.
 use mathlib.Core.List.{List, [], _∷_}
 use mathlib.Core.Bool.{Bool, true}
 use Prim.Native.Nat.{ℕ, _+_, _*_, _/_, _%_}
 use lib.Dec.{eqb, leb}
 use lib.ListN.{length, getD}
-use Rattle.picture.specs.Pixels.{Pixel, pick}
+use Rattle.base.specs.Picks.{pick}
+use Rattle.picture.specs.Pixels.{Pixel, pixelAt}
 use Rattle.picture.specs.Sizes.{Refusal, refusal, depthIndex}
 use Rattle.picture.specs.Outcomes.{refusalOf}
 use Rattle.color.specs.declared.pixel.Expansion.{Expansion}
@@ -17,40 +18,33 @@ use Rattle.color.specs.declared.pixel.Expanded.{Expanded}
 abbrev pub Triple : Type 0
 Triple = List ℕ
 
--- a channel of five bits as a byte
-unfoldable pub channel5 : ℕ → ℕ
-channel5 c = 8 * c
-
--- a channel of six bits as a byte
-unfoldable pub channel6 : ℕ → ℕ
-channel6 c = 4 * c
+-- a channel of n values as a byte: n is 32 for five bits, 64 for six
+unfoldable pub channel : ℕ → ℕ → ℕ
+channel n c = 256 / n * c
 
 -- the number that a pixel of two bytes is
 unfoldable pub word : Pixel → ℕ
 word p = getD p 0 0 + 256 * getD p 1 0
 
--- 15 bits per pixel: five bits each, blue lowest
-unfoldable pub expand15 : Pixel → Triple
-expand15 p = channel5 (word p % 32) ∷ channel5 (word p / 32 % 32) ∷ channel5 (word p / 1024 % 32) ∷ []
-
--- 16 bits per pixel: five, six and five bits, blue lowest
-unfoldable pub expand16 : Pixel → Triple
-expand16 p = channel5 (word p % 32) ∷ channel6 (word p / 32 % 64) ∷ channel5 (word p / 2048 % 32) ∷ []
+-- a pixel of two bytes: five bits of blue, lowest, then green, which has n values, then five bits of red
+unfoldable pub expandWord : ℕ → Pixel → Triple
+expandWord n p =
+    channel 32 (word p % 32) ∷ channel n (word p / 32 % n) ∷ channel 32 (word p / (32 * n) % 32) ∷ []
 
 -- entry i of a palette: 256 triples as they stand in its first 768 bytes
 unfoldable pub entry : List ℕ → ℕ → Triple
-entry palette i = getD palette (3 * i) 0 ∷ getD palette (3 * i + 1) 0 ∷ getD palette (3 * i + 2) 0 ∷ []
+entry palette i = pixelAt 3 palette i
 
--- the color of a pixel, at a depth of the table and with a palette that is long enough
+-- the color of a pixel, at a depth of the table and with a palette that is long enough: at 15 bits green has 32 values, at 16 it has 64
 unfoldable pub colorOf : List ℕ → ℕ → Pixel → Triple
 colorOf palette bpp p =
-    pick (eqb bpp 8) (entry palette (getD p 0 0)) (pick (eqb bpp 15) (expand15 p) (pick (eqb bpp 16) (expand16 p) p))
+    pick (eqb bpp 8) (entry palette (getD p 0 0)) (pick (eqb bpp 15) (expandWord 32 p) (pick (eqb bpp 16) (expandWord 64 p) p))
 
 -- the palette has its 256 entries, where the depth needs one
 unfoldable pub paletteFits : ℕ → List ℕ → Bool
 paletteFits bpp palette = pick (eqb bpp 8) (leb 768 (length palette)) true
 
--- what expansion answers: a refusal (number 0: none), and the triple (zeros where refused)
+-- what expansion gives: a refusal (number 0: none), and the triple (zeros where refused)
 pub record Answer : Type 0 where
   pub refusal : Refusal
   pub triple : Triple
@@ -67,7 +61,7 @@ expanded palette bpp p =
     pick (leb 4 (depthIndex bpp)) (refusing (refusal 1 bpp 0))
     (pick (paletteFits bpp palette) (giving (colorOf palette bpp p)) (refusing (refusal 4 768 (length palette))))
 
--- number and values of the code's answer
+-- number and values of the code's refusal
 abbrev pub refusalIn : Expansion → Refusal
 refusalIn Done = refusal 0 0 0
 refusalIn (Refused e) = refusalOf e

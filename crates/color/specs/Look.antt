@@ -8,7 +8,7 @@ use Rattle.color.specs.declared.palette.Look.{Look}
 use Rattle.color.specs.declared.palette.Look.the-variants.{At, Nothing}
 use Rattle.color.specs.Colors.{Triple, entry}
 
--- index i is a right answer
+-- index i is a right one
 pub record Matches (palette : List ℕ) (t : Triple) (i : ℕ) : Type 0 where
   pub long : 768 ≤ length palette
   pub index : i < 256

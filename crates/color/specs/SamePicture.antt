@@ -6,7 +6,8 @@ use mathlib.Core.Bool.{Bool, true, false}
 use Prim.Native.Nat.{ℕ, zero, suc, _*_, _<_}
 use lib.Dec.{eqb, leb}
 use lib.ListN.{length, getD}
-use Rattle.picture.specs.Pixels.{pick, pixelAt}
+use Rattle.base.specs.Picks.{pick}
+use Rattle.picture.specs.Pixels.{pixelAt}
 use Rattle.picture.specs.Sizes.{depthOf, checked, sizeOf, hasSpace}
 use Rattle.color.specs.declared.same.Shape.{Shape}
 use Rattle.color.specs.Colors.{Triple, colorOf, paletteFits}

@@ -4,6 +4,7 @@
 
 pub mod palette;
 pub mod pixel;
+pub mod read;
 pub mod same;
 
 pub use palette::Look;

@@ -1,22 +1,13 @@
 // Palettes: 256 triples of blue, green and red, in the first 768 bytes.
 ghost use mathlib.Core.Path.{_≡_};
-ghost use Prim.Native.Nat.{_<_, _≤_};
-ghost use lib.ListN.{length};
-ghost use Rattle.color.specs.Colors.{entry};
+ghost use Rattle.color.specs.Colors.{paletteFits};
 ghost use Rattle.color.specs.Look.{Looked};
 ghost use Rattle.color.specs.SamePicture.{sameTriple};
+use crate::read::pixel_at;
 
 pub enum Look {
     At(usize),
     Nothing,
-}
-
-pub(crate) fn entry_at(palette: &[u8], i: usize) -> [u8; 3]
-    requires { ⌜ (i < 256) × (768 ≤ length (now palette)) ⌝ }
-    ensures { λ r. ⌜ r ≡ entry (now (palette .entry)) i ⌝ }
-{
-    let at = 3 * i;
-    [palette[at], palette[at + 1], palette[at + 2]]
 }
 
 pub(crate) fn same_triple(s: [u8; 3], t: [u8; 3]) -> bool
@@ -31,6 +22,16 @@ pub(crate) fn same_triple(s: [u8; 3], t: [u8; 3]) -> bool
     s[2] == t[2]
 }
 
+// Whether the palette has its entries, where the depth needs one.
+pub(crate) fn palette_fits(bpp: usize, palette: &[u8]) -> bool
+    ensures { λ r. ⌜ r ≡ paletteFits bpp (now (palette .entry)) ⌝ }
+{
+    if bpp != 8 {
+        return true;
+    }
+    768 <= palette.len()
+}
+
 // An index whose entry is the triple.
 pub fn palette_look(palette: &[u8], triple: [u8; 3]) -> Look
     ensures { λ r. ⌜ Looked (now (palette .entry)) triple r ⌝ }
@@ -40,7 +41,7 @@ pub fn palette_look(palette: &[u8], triple: [u8; 3]) -> Look
     }
     let mut i: usize = 0;
     while i < 256 {
-        if same_triple(entry_at(palette, i), triple) {
+        if same_triple(pixel_at(palette, 3, i), triple) {
             return Look::At(i);
         }
         i += 1;

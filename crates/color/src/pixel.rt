@@ -1,9 +1,13 @@
 // Expansion of one pixel to blue, green and red.
 ghost use mathlib.Core.Path.{_≡_};
+ghost use mathlib.Core.Bool.{true};
 ghost use Prim.Native.Nat.{_<_};
 ghost use Rattle.picture.specs.Outcomes.{refusalOf};
-ghost use Rattle.color.specs.Colors.{channel5, channel6, expand15, expand16, expanded, answerIn, giving, refusing};
-use crate::palette::entry_at;
+ghost use Rattle.color.specs.Colors.{channel, expandWord, colorOf, paletteFits, expanded, answerIn, giving, refusing};
+ghost use Rattle.color.specs.Contracts.{ChannelValues};
+use crate::palette::palette_fits;
+use crate::read::pixel_at;
+use base::widen;
 use picture::RleError;
 
 pub enum Expansion {
@@ -11,58 +15,47 @@ pub enum Expansion {
     Refused(RleError),
 }
 
-// The triple is blue, green, red; zeros where refused. An enum can't hold an array, so it stands beside the answer.
+// The triple is blue, green, red; zeros where refused. An enum can't hold an array, so it stands beside the enum.
 pub struct Expanded {
     pub answer: Expansion,
     pub bgr: [u8; 3],
 }
 
-pub(crate) fn wide(byte: u8) -> usize
-    ensures { λ r. ⌜ (r ≡ byte) × (r < 256) ⌝ }
+// A channel of n values as a byte.
+pub(crate) fn channel_byte(n: usize, c: usize) -> u8
+    requires { ⌜ ChannelValues n × (c < n) ⌝ }
+    ensures { λ r. ⌜ r ≡ channel n c ⌝ }
 {
-    byte as usize
+    (256 / n * c) as u8
 }
 
-// A channel of five bits as a byte.
-pub(crate) fn from_five_bits(c: usize) -> u8
-    requires { ⌜ c < 32 ⌝ }
-    ensures { λ r. ⌜ r ≡ channel5 c ⌝ }
+// The color of a pixel of two bytes, whose green has n values. The channels are taken out of the two bytes one by one: as one number
+// they would be read back from memory that was just written, which stalls.
+pub(crate) fn from_two_bytes(pixel: [u8; 3], n: usize) -> [u8; 3]
+    requires { ⌜ ChannelValues n ⌝ }
+    ensures { λ r. ⌜ r ≡ expandWord n pixel ⌝ }
 {
-    (8 * c) as u8
-}
-
-// A channel of six bits as a byte.
-pub(crate) fn from_six_bits(c: usize) -> u8
-    requires { ⌜ c < 64 ⌝ }
-    ensures { λ r. ⌜ r ≡ channel6 c ⌝ }
-{
-    (4 * c) as u8
-}
-
-// The channels are taken out of the two bytes one by one: as one number they would be read back from memory that was just
-// written, which stalls.
-pub(crate) fn from_15_bits(pixel: [u8; 3]) -> [u8; 3]
-    ensures { λ r. ⌜ r ≡ expand15 pixel ⌝ }
-{
-    let low = wide(pixel[0]);
-    let high = wide(pixel[1]);
+    let low = widen(pixel[0]);
+    let high = widen(pixel[1]);
+    let upper = n / 8;
     [
-        from_five_bits(low % 32),
-        from_five_bits(low / 32 + high % 4 * 8),
-        from_five_bits(high / 4 % 32),
+        channel_byte(32, low % 32),
+        channel_byte(n, low / 32 + high % upper * 8),
+        channel_byte(32, high / upper % 32),
     ]
 }
 
-pub(crate) fn from_16_bits(pixel: [u8; 3]) -> [u8; 3]
-    ensures { λ r. ⌜ r ≡ expand16 pixel ⌝ }
+// The color of a pixel of so many bits, at a depth of the table. The palette is looked at for 8 bits alone.
+pub(crate) fn color_of(pixel: [u8; 3], bpp: usize, palette: &[u8]) -> [u8; 3]
+    requires { ⌜ paletteFits bpp (now palette) ≡ true ⌝ }
+    ensures { λ r. ⌜ r ≡ colorOf (now (palette .entry)) bpp pixel ⌝ }
 {
-    let low = wide(pixel[0]);
-    let high = wide(pixel[1]);
-    [
-        from_five_bits(low % 32),
-        from_six_bits(low / 32 + high % 8 * 8),
-        from_five_bits(high / 8),
-    ]
+    match bpp {
+        8 => pixel_at(palette, 3, widen(pixel[0])),
+        15 => from_two_bytes(pixel, 32),
+        16 => from_two_bytes(pixel, 64),
+        _ => pixel,
+    }
 }
 
 fn done(bgr: [u8; 3]) -> Expanded
@@ -83,23 +76,24 @@ fn refused(e: RleError) -> Expanded
     }
 }
 
-// The color of a pixel of so many bits. The palette is looked at for 8 bits alone.
+// The color of a pixel of so many bits, or the refusal of the depth or of a short palette. The depths are literals in the calls of
+// `color_of`, which makes them faster.
 pub fn expand(pixel: [u8; 3], bpp: usize, palette: &[u8]) -> Expanded
     ensures { λ r. ⌜ answerIn r ≡ expanded (now (palette .entry)) bpp pixel ⌝ }
 {
     match bpp {
         8 => {
-            if palette.len() < 768 {
+            if !palette_fits(8, palette) {
                 return refused(RleError::BufferTooShort {
                     needed: 768,
                     given: palette.len(),
                 });
             }
-            done(entry_at(palette, wide(pixel[0])))
+            done(color_of(pixel, 8, palette))
         }
-        15 => done(from_15_bits(pixel)),
-        16 => done(from_16_bits(pixel)),
-        24 => done(pixel),
+        15 => done(color_of(pixel, 15, palette)),
+        16 => done(color_of(pixel, 16, palette)),
+        24 => done(color_of(pixel, 24, palette)),
         _ => refused(RleError::InvalidBpp { bpp }),
     }
 }

@@ -1,17 +1,15 @@
 // Whether two pictures look the same, also at different depths.
 ghost use mathlib.Core.Path.{_≡_};
-ghost use Prim.Native.Nat.{_+_, _*_, _≤_};
-ghost use lib.ListN.{length};
+ghost use Prim.Native.Nat.{_+_};
 ghost use Rattle.picture.specs.Pixels.{pixelAt};
 ghost use Rattle.picture.specs.Sizes.{depthOf};
 ghost use Rattle.color.specs.Colors.{colorOf};
 ghost use Rattle.color.specs.SamePicture.{samePicture, sameColors, valid, pictureOf};
 ghost use Rattle.color.specs.Contracts.{Expandable};
-use crate::palette::entry_at;
+use crate::palette::palette_fits;
 use crate::palette::same_triple;
-use crate::pixel::from_15_bits;
-use crate::pixel::from_16_bits;
-use crate::pixel::wide;
+use crate::pixel::color_of;
+use crate::read::pixel_of;
 use picture::PictureSize;
 
 // A picture's numbers: `pixels` of its pixels are painted. Its bytes stand in a slice beside it.
@@ -36,30 +34,9 @@ pub(crate) fn is_valid(slice: &[u8], shape: Shape, palette: &[u8]) -> bool
             if shape.width * shape.height < shape.pixels {
                 return false;
             }
-            if shape.bpp != 8 {
-                return true;
-            }
-            768 <= palette.len()
+            palette_fits(shape.bpp, palette)
         }
     }
-}
-
-// Pixel k of two bytes.
-pub(crate) fn pixel_of_two(slice: &[u8], k: usize) -> [u8; 3]
-    requires { ⌜ k * 2 + 2 ≤ length (now slice) ⌝ }
-    ensures { λ r. ⌜ r ≡ pixelAt 2 (now (slice .entry)) k ⌝ }
-{
-    let at = k * 2;
-    [slice[at], slice[at + 1], 0]
-}
-
-// Pixel k of three bytes.
-pub(crate) fn pixel_of_three(slice: &[u8], k: usize) -> [u8; 3]
-    requires { ⌜ k * 3 + 3 ≤ length (now slice) ⌝ }
-    ensures { λ r. ⌜ r ≡ pixelAt 3 (now (slice .entry)) k ⌝ }
-{
-    let at = k * 3;
-    [slice[at], slice[at + 1], slice[at + 2]]
 }
 
 // The color of pixel k. The picture is valid: nothing is tested again for a pixel but which depth it has.
@@ -67,12 +44,7 @@ pub(crate) fn color_at(slice: &[u8], bpp: usize, palette: &[u8], k: usize) -> [u
     requires { ⌜ Expandable (now palette) (now slice) bpp (k + 1) ⌝ }
     ensures { λ r. ⌜ r ≡ colorOf (now (palette .entry)) bpp (pixelAt (depthOf bpp .bytes) (now (slice .entry)) k) ⌝ }
 {
-    match bpp {
-        8 => entry_at(palette, wide(slice[k])),
-        15 => from_15_bits(pixel_of_two(slice, k)),
-        16 => from_16_bits(pixel_of_two(slice, k)),
-        _ => pixel_of_three(slice, k),
-    }
+    color_of(pixel_of(slice, bpp, k), bpp, palette)
 }
 
 // Whether the painted pixels of two valid pictures have the same colors. p and q are the numbers of a and b, of equal counts.

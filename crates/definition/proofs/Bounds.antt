@@ -9,7 +9,7 @@ use lib.ListN.{length, getD, drop, length-drop}
 use lib.Seq.{getD-drop}
 use borrow.Author.Tests.{leb-true, eqb-false}
 use Rattle.picture.specs.Sizes.{Refusal, Frame}
-use Rattle.picture.proofs.Tests.{by-test}
+use Rattle.base.proofs.Tests.{by-test}
 use Rattle.definition.specs.Orders.{Kind, BgRun, FgRun, FgBgImage, ColorRun, ColorImage, SetFgRun, SetFgBgImage, DitheredRun, SpecialFgBg1, SpecialFgBg2, White, Black, NoOrder, Place, nowhere, inHeader, inByte, inTwoBytes, rowOf, placeOf, ownLength, megaOf, RunLength, runLength, refused, withBytes, megaLength, megaMegaLength, lengthAt, lengthOf, headed, headOf}
 use Rattle.definition.specs.Decode.{State, start, Run, ended, paused, refused, atEnd, thenRun, run, decode}
 use Rattle.definition.specs.Plan.{Ending, complete, refused, Counts, behind, withOperands, runCounts, imageCounts, countsOf, progressOf, planBy, planFrom, pastFirstRow, planOf, endWith, planState, planStep}

@@ -7,8 +7,8 @@ use native.Mathlib.Omega.{arith}
 use lib.Dec.{ltb, leb, eqb}
 use lib.ListN.{getD}
 use borrow.Author.Tests.{lt-ltb, leb-true, ltb-true, eqb-true}
-use Rattle.picture.specs.Pixels.{pick}
-use Rattle.picture.proofs.Tests.{by-test}
+use Rattle.base.specs.Picks.{pick}
+use Rattle.base.proofs.Tests.{by-test, both-true}
 use Rattle.definition.specs.Orders.{Row, rows, noRow, hasHeader, rowIn, rowOf, Place, nowhere, inHeader, inByte, inTwoBytes, placeOf, ownLength, megaOf, runLength, megaLength, megaMegaLength, lengthAt, lengthOf}
 use Rattle.definition.specs.Codes.{kindRow, numberIn, kindNumber, ownAt, lengthNumber, megaNumber, lengthTest, headerTest, headers-tested}
 use Rattle.definition.proofs.Table.{same-tables}
@@ -29,11 +29,6 @@ pub row-is : (h : ℕ) → rowOf h ≡ kindRow (kindNumber h)
 unfolding rowOf kindRow kindNumber
 row-is h = row-at h rows
 
--- two tests that both say so
-pub both : (a b : Bool) → pick a b false ≡ true → (a ≡ true) × (b ≡ true)
-both true b e = (refl, e)
-both false b e = absurd (let z : _≡_ {A = ℕ} 0 1 = ap (λ (t : Bool). pick t 1 0) e in omega arith)
-
 -- what the computed test of a header says, by the place of its length
 abbrev pub Tested : Place → ℕ → ℕ → ℕ → Type 0
 Tested nowhere h n mega = (1 ≤ n) × (n ≤ 248)
@@ -42,14 +37,14 @@ Tested inByte h n mega = (h < 0xF0) × (mega ≡ megaNumber (kindNumber h))
 Tested inTwoBytes h n mega = 0xF0 ≤ h
 
 in-header : (n : ℕ) → pick (leb 1 n) (leb n 248) false ≡ true → (1 ≤ n) × (n ≤ 248)
-in-header n e = let t = both (leb 1 n) (leb n 248) e in (leb-true 1 n (t .0), leb-true n 248 (t .1))
+in-header n e = let t = both-true (leb 1 n) (leb n 248) e in (leb-true 1 n (t .0), leb-true n 248 (t .1))
 
 test-says : (p : Place) (h n mega : ℕ) → lengthTest p h n mega ≡ true → Tested p h n mega
 unfolding lengthTest
 test-says nowhere h n mega e = in-header n e
 test-says inHeader h n mega e = in-header n e
 test-says inByte h n mega e =
-    let t = both (ltb h 0xF0) (eqb mega (megaNumber (kindNumber h))) e in
+    let t = both-true (ltb h 0xF0) (eqb mega (megaNumber (kindNumber h))) e in
     (ltb-true h 0xF0 (t .0), eqb-true mega (megaNumber (kindNumber h)) (t .1))
 test-says inTwoBytes h n mega e = leb-true 0xF0 h e
 
@@ -57,7 +52,7 @@ module _ (h : ℕ) (byte : h < 256) where
   test : (lengthTest (placeOf (rowOf h) h) h (ownLength h (rowOf h .size) (rowOf h .lengths)) (megaOf (rowOf h .lengths)) ≡ true)
       × (pick (ltb 7 (kindNumber h)) (eqb (lengthNumber h) (pick (ltb 9 (kindNumber h)) 1 8)) true ≡ true)
   unfolding headerTest
-  test = both _ _ (same-tables true headerTest (λ _. true) 256 headers-tested h byte)
+  test = both-true _ _ (same-tables true headerTest (λ _. true) 256 headers-tested h byte)
 
   pub tested : Tested (placeOf (rowOf h) h) h (ownLength h (rowOf h .size) (rowOf h .lengths)) (megaOf (rowOf h .lengths))
   tested = test-says (placeOf (rowOf h) h) h (ownLength h (rowOf h .size) (rowOf h .lengths)) (megaOf (rowOf h .lengths)) (test .0)

@@ -10,7 +10,7 @@ use lib.ListN.{length, getD, drop}
 use borrow.Author.Tests.{leb-true, leb-false, le-leb, lt-leb, eqb-true, eqb-false}
 use Rattle.picture.specs.Pixels.{Pixel}
 use Rattle.picture.specs.Sizes.{refusal, Frame}
-use Rattle.picture.proofs.Tests.{by-test}
+use Rattle.base.proofs.Tests.{by-test}
 use Rattle.definition.specs.Decode.{Ink, paint, maskInk, fg, bg, State, state, Step, refused, withPainted, withLeft, room, tooLarge, tooShort, completed, oneMask, andThen, masks}
 use Rattle.definition.specs.Plan.{complete, refused, Counts, counts, masksFor, noMask, noRoom, imageCounts, imageInk, insertAfter, ordersAfter, endWith}
 use Rattle.definition.proofs.Painting.{length-paint, paint-add, paint-cong}

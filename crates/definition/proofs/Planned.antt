@@ -9,9 +9,10 @@ use lib.Dec.{leb}
 use lib.ListN.{length, getD, drop, length-drop}
 use lib.Seq.{drop-drop}
 use borrow.Author.Tests.{leb-true, leb-false, le-leb}
-use Rattle.picture.specs.Pixels.{Pixel, pick, firstPixel}
+use Rattle.base.specs.Picks.{pick}
+use Rattle.picture.specs.Pixels.{Pixel, firstPixel}
 use Rattle.picture.specs.Sizes.{Refusal, refusal, Frame}
-use Rattle.picture.proofs.Tests.{by-test}
+use Rattle.base.proofs.Tests.{by-test, apart}
 use Rattle.definition.specs.Orders.{Kind, BgRun, FgRun, FgBgImage, ColorRun, ColorImage, SetFgRun, SetFgBgImage, DitheredRun, SpecialFgBg1, SpecialFgBg2, White, Black, NoOrder, Head, head, refused, headOf}
 use Rattle.definition.specs.Decode.{Ink, fgInk, bgInk, paint, bg, State, state, Step, done, withPainted, withLeft, withForeground, completed, room, tooLarge, tooShort, needBytes, paintOrder, setForeground, bgRun, fgRun, setFgRun, colorRun, colorImage, ditheredRun, specialFgBg, fgBgImage, setFgBgImage, orderOf, orderFrom, endFirstRow, step}
 use Rattle.definition.specs.Plan.{Ending, complete, refused, Counts, counts, behind, withOperands, runCounts, masksFor, noMask, noRoom, imageCounts, countsOf, leavesInsert, newForeground, foregroundBy, insertAfter, ordersAfter, imageInk, kindInk, Progress, progressOf, planBy, planFrom, pastFirstRow, planOf, planForeground, planInk, endWith, planState, planStep, leaves, insertIn, foregroundIn}
@@ -159,7 +160,7 @@ pub record Within (a R : ℕ) (c : Counts) : Type 0 where
   pub some : c .ending ≡ complete → 1 ≤ c .pixels
 
 pub refused-none : {r : Refusal} {A : Type 0} → refused r ≡ complete → A
-refused-none e = absurd (let z : _≡_ {A = ℕ} 0 1 = cc in omega arith)
+refused-none e = apart cc
 
 run-within : (D n a R : ℕ) → 1 ≤ n → Within a R (runCounts D n R)
 unfolding runCounts

@@ -7,7 +7,7 @@ use native.Mathlib.Omega.{arith}
 use lib.Dec.{leb, eqb}
 use lib.ListN.{length, getD, drop, length-drop}
 use Rattle.picture.specs.Sizes.{Refusal, Frame}
-use Rattle.picture.proofs.Tests.{by-test}
+use Rattle.base.proofs.Tests.{by-test}
 use Rattle.definition.specs.Orders.{Kind, rowOf, Place, nowhere, inHeader, inByte, inTwoBytes, RunLength, runLength, withBytes, megaLength, megaMegaLength, lengthAt, lengthOf, headed, headOf}
 use Rattle.definition.specs.Decode.{State, Step, done, refused, step, Run, ended, paused, atEnd, thenRun, run, decode, start}
 use Rattle.definition.specs.Plan.{Ending, complete, Progress, endWith, planFrom, planBy, planOf, planState, planStep, pastFirstRow, progressOf}

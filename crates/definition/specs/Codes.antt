@@ -8,7 +8,7 @@ use Prim.Native.Nat.{ℕ, zero, suc, _-_, _/_}
 use lib.Dec.{ltb, leb, eqb}
 use lib.Bits.{bitAnd}
 use lib.ListN.{getD}
-use Rattle.picture.specs.Pixels.{pick}
+use Rattle.base.specs.Picks.{pick}
 use Rattle.definition.specs.Orders as orders
 use Rattle.definition.specs.Orders.{Kind, Row, rows, noRow, hasHeader, rowOf, Place, nowhere, inHeader, inByte, inTwoBytes, placeOf, ownLength, megaOf}
 

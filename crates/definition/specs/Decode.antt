@@ -5,9 +5,10 @@ use mathlib.Core.Bool.{Bool, true, false}
 use Prim.Native.Nat.{ℕ, zero, suc, _+_, _-_, _*_, _/_, _%_, _^_, min}
 use lib.Dec.{ltb, leb, eqb}
 use lib.ListN.{length, getD, drop}
-use Rattle.picture.specs.Sizes.{Refusal, refusal, Frame, Checked, rejected, accepted, checked, withSpace}
+use Rattle.picture.specs.Sizes.{Refusal, refusal, Frame, Checked, accepted, checked, withSpace}
 use Rattle.definition.specs.Orders.{Kind, BgRun, FgRun, FgBgImage, ColorRun, ColorImage, SetFgRun, SetFgBgImage, DitheredRun, SpecialFgBg1, SpecialFgBg2, White, Black, NoOrder, Head, head, headOf}
-use Rattle.picture.specs.Pixels.{Pixel, pick, firstPixel, pixelAt, xorPixel}
+use Rattle.base.specs.Picks.{pick}
+use Rattle.picture.specs.Pixels.{Pixel, firstPixel, pixelAt, xorPixel}
 
 -- ---- painting
 
@@ -247,7 +248,7 @@ ofRun f k (paused s) = resultOf (refusal 0 0 0) 0 (f .bytes) s
 ofRun f k (refused r s) = resultOf r 0 (f .bytes) s
 
 unfoldable pub ofChecked : List ℕ → Checked → Result
-ofChecked stream (rejected r) = record { refusal = r; format = 0; bytes = 0; painted = []; orders = 0 }
+ofChecked stream (Checked.refused r) = record { refusal = r; format = 0; bytes = 0; painted = []; orders = 0 }
 ofChecked stream (accepted f k) = ofRun f k (decode f stream)
 
 -- the definition: what decoding gives in every target that has space

@@ -6,7 +6,8 @@ use mathlib.Core.Bool.{Bool, true, false}
 use Prim.Native.Nat.{ℕ, suc, _+_, _-_, _*_, _/_, _%_, min}
 use lib.Dec.{ltb, leb}
 use lib.ListN.{length, getD, drop}
-use Rattle.picture.specs.Pixels.{Pixel, pick, firstPixel, pixelAt}
+use Rattle.base.specs.Picks.{pick}
+use Rattle.picture.specs.Pixels.{Pixel, firstPixel, pixelAt}
 use Rattle.picture.specs.Sizes.{Refusal, refusal, Frame}
 use Rattle.definition.specs.Orders.{Kind, BgRun, FgRun, FgBgImage, ColorRun, ColorImage, SetFgRun, SetFgBgImage, DitheredRun, SpecialFgBg1, SpecialFgBg2, White, Black, NoOrder, Place, Head, head, headOf, rowOf, placeOf}
 use Rattle.definition.specs.Decode.{Ink, solid, fgInk, bgInk, insertInk, maskInk, ditherInk, paint, State, state, Step, done}

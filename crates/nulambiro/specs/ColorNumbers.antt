@@ -4,7 +4,7 @@ use mathlib.Core.Bool.{Bool}
 use Prim.Native.Nat.{ℕ, _≤_}
 use lib.Dec.{ltb}
 use lib.ListN.{getD}
-use Rattle.picture.specs.Pixels.{pick}
+use Rattle.base.specs.Picks.{pick}
 use Rattle.picture.specs.Sizes.{Refusal}
 use Rattle.color.specs.declared.palette.Look.{Look}
 use Rattle.color.specs.declared.palette.Look.the-variants.{At, Nothing}

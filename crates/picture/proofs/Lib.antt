@@ -1,4 +1,3 @@
-pub mod Tests
 pub mod Depths
 pub mod Sizes
 pub mod Pixels

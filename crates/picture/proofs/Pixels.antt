@@ -9,7 +9,8 @@ use lib.Dec.{ltb}
 use lib.ListN.{length, getD, take, drop}
 use lib.Seq.{getD-drop, getD-take, length-take-le, ext-getD}
 use borrow.Author.Tests.{ltb-true, lt-ltb}
-use Rattle.picture.specs.Pixels.{pick, firstPixel}
+use Rattle.base.specs.Picks.{pick}
+use Rattle.picture.specs.Pixels.{firstPixel}
 
 -- it sees only its own bytes
 pick-cong : (t : Bool) (x y : ℕ) → (t ≡ true → x ≡ y) → pick t x 0 ≡ pick t y 0
@@ -33,17 +34,19 @@ getD-first-pixel D xs (suc (suc (suc i))) h k = absurd (omega arith)
 
 -- the bytes of a pixel as the code reads them
 module _ (s : List ℕ) (at : ℕ) where
-  pub first-pixel-1 : (D : ℕ) → D ≡ 1 → (getD s at 0 ∷ 0 ∷ 0 ∷ []) ≡ firstPixel D (drop at s)
+  pub pixel-bytes : (D : ℕ) → (getD s at 0 ∷ pick (ltb 1 D) (getD s (at + 1) 0) 0 ∷ pick (ltb 2 D) (getD s (at + 2) 0) 0 ∷ []) ≡ firstPixel D (drop at s)
   unfolding firstPixel
-  first-pixel-1 D e = rw e (simp (getD-drop, add-zero))
+  pixel-bytes D = simp (getD-drop, add-zero)
+
+  -- at each D
+  pub first-pixel-1 : (D : ℕ) → D ≡ 1 → (getD s at 0 ∷ 0 ∷ 0 ∷ []) ≡ firstPixel D (drop at s)
+  first-pixel-1 D e = rw e (pixel-bytes 1)
 
   pub first-pixel-2 : (D : ℕ) → D ≡ 2 → (getD s at 0 ∷ getD s (at + 1) 0 ∷ 0 ∷ []) ≡ firstPixel D (drop at s)
-  unfolding firstPixel
-  first-pixel-2 D e = rw e (simp (getD-drop, add-zero))
+  first-pixel-2 D e = rw e (pixel-bytes 2)
 
   pub first-pixel-3 : (D : ℕ) → D ≡ 3 → (getD s at 0 ∷ getD s (at + 1) 0 ∷ getD s (at + 2) 0 ∷ []) ≡ firstPixel D (drop at s)
-  unfolding firstPixel
-  first-pixel-3 D e = rw e (simp (getD-drop, add-zero))
+  first-pixel-3 D e = rw e (pixel-bytes 3)
 
 pub length-first-pixel : (D : ℕ) (xs : List ℕ) → length (firstPixel D xs) ≡ 3
 unfolding firstPixel

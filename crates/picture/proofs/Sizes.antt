@@ -6,8 +6,9 @@ use native.Mathlib.Nat.{mul-le-mul}
 use native.Mathlib.Omega.{arith}
 use lib.Dec.{ltb, leb, eqb}
 use borrow.Author.Tests.{leb-false, eqb-false, ltb-false, le-leb, lt-leb, lt-ltb, le-ltb, eq-eqb, ne-eqb}
+use Rattle.base.proofs.Tests.{apart}
 use Rattle.picture.specs.declared.PictureSize.{PictureSize}
-use Rattle.picture.specs.Sizes.{Refusal, refusal, depthIndex, depthOf, Checked, rejected, accepted, accept, checked, Size, bytes, refused, sizeOf}
+use Rattle.picture.specs.Sizes.{Refusal, refusal, depthIndex, depthOf, Checked, refused, accepted, accept, checked, Size, bytes, sizeOf}
 use Rattle.picture.specs.Outcomes.{sizeIn}
 use Rattle.picture.proofs.Depths.{depth-good}
 
@@ -42,9 +43,9 @@ module _ (bpp w h i : ℕ) (is : i ≡ depthIndex bpp) where
           size-fits e D p = rw (← is, lt-leb 4 i a, ne-eqb w 0 b, ne-eqb h 0 c, le-ltb 8192 w d, le-ltb 8192 h e, p)
 
 clash : (n : ℕ) (r : Refusal) → bytes n ≡ refused r → ⊥
-clash n r e = let z : _≡_ {A = ℕ} 0 1 = cc in omega arith
+clash n r e = apart cc
 
--- what was matched of an answer
+-- what was matched of a size
 pub matched : {s t : PictureSize} {x : Size} → s ≡ t → sizeIn s ≡ x → sizeIn t ≡ x
 matched e p = ap (λ (y : PictureSize). sizeIn y) (sym e) ∙ p
 
@@ -63,11 +64,11 @@ module _ (bpp w h n : ℕ) (is : bytes n ≡ sizeOf (checked bpp w h)) where
   unfolding checked sizeOf accept
   sized = depth (leb 4 (depthIndex bpp)) refl
     where
-      no : (r : Refusal) → sizeOf (checked bpp w h) ≡ refused r → Sized bpp w h n
-      no r e = absurd (clash n r (is ∙ e))
+      impossible : (r : Refusal) → sizeOf (checked bpp w h) ≡ refused r → Sized bpp w h n
+      impossible r e = absurd (clash n r (is ∙ e))
 
       fits : leb 4 (depthIndex bpp) ≡ false → eqb w 0 ≡ false → eqb h 0 ≡ false → ltb 8192 w ≡ false → (b : Bool) → ltb 8192 h ≡ b → Sized bpp w h n
-      fits p q r s true e = no (refusal 3 w h) (rw (p, q, r, s, e))
+      fits p q r s true e = impossible (refusal 3 w h) (rw (p, q, r, s, e))
       fits p q r s false e =
           let c : checked bpp w h ≡ accept (depthOf bpp) w h = rw (p, q, r, s, e) in
           let k : depthIndex bpp < 4 = leb-false 4 (depthIndex bpp) p in
@@ -83,19 +84,19 @@ module _ (bpp w h n : ℕ) (is : bytes n ≡ sizeOf (checked bpp w h)) where
           }
 
       width : leb 4 (depthIndex bpp) ≡ false → eqb w 0 ≡ false → eqb h 0 ≡ false → (b : Bool) → ltb 8192 w ≡ b → Sized bpp w h n
-      width p q r true e = no (refusal 3 w h) (rw (p, q, r, e))
+      width p q r true e = impossible (refusal 3 w h) (rw (p, q, r, e))
       width p q r false e = fits p q r e (ltb 8192 h) refl
 
       no-height : leb 4 (depthIndex bpp) ≡ false → eqb w 0 ≡ false → (b : Bool) → eqb h 0 ≡ b → Sized bpp w h n
-      no-height p q true e = no (refusal 2 0 0) (rw (p, q, e))
+      no-height p q true e = impossible (refusal 2 0 0) (rw (p, q, e))
       no-height p q false e = width p q e (ltb 8192 w) refl
 
       no-width : leb 4 (depthIndex bpp) ≡ false → (b : Bool) → eqb w 0 ≡ b → Sized bpp w h n
-      no-width p true e = no (refusal 2 0 0) (rw (p, e))
+      no-width p true e = impossible (refusal 2 0 0) (rw (p, e))
       no-width p false e = no-height p e (eqb h 0) refl
 
       depth : (b : Bool) → leb 4 (depthIndex bpp) ≡ b → Sized bpp w h n
-      depth true e = no (refusal 1 bpp 0) (rw e)
+      depth true e = impossible (refusal 1 bpp 0) (rw e)
       depth false e = no-width e (eqb w 0) refl
 
 pub few : {w h : ℕ} → w ≤ 8192 → h ≤ 8192 → w * h ≤ 67108864
@@ -104,7 +105,7 @@ few a b = mul-le-mul a b
 pub few-bytes : {w h : ℕ} (bpp : ℕ) → depthIndex bpp < 4 → w ≤ 8192 → h ≤ 8192 → w * h * depthOf bpp .bytes ≤ 201326592
 few-bytes bpp k a b = mul-le-mul (few a b) (depth-good bpp k .high)
 
-pub size-rejected : (c : Checked) (r : Refusal) → refused r ≡ sizeOf c → c ≡ rejected r
+pub size-refused : (c : Checked) (r : Refusal) → refused r ≡ sizeOf c → c ≡ refused r
 unfolding sizeOf
-size-rejected (rejected x) r e = cc
-size-rejected (accepted f k) r e = absurd (clash (f .total * f .bytes) r (sym e))
+size-refused (refused x) r e = cc
+size-refused (accepted f k) r e = absurd (clash (f .total * f .bytes) r (sym e))

@@ -2,19 +2,14 @@
 -- them a depth uses: so many stand in the stream and in the picture.
 use mathlib.Core.Path.{_≡_}
 use mathlib.Core.List.{List, [], _∷_, _++_}
-use mathlib.Core.Bool.{Bool, true, false}
 use Prim.Native.Nat.{ℕ, _*_}
 use lib.Dec.{ltb}
 use lib.ListN.{getD, take, drop}
 use lib.Bits.{bitXor}
+use Rattle.base.specs.Picks.{pick}
 
 abbrev pub Pixel : Type 0
 Pixel = List ℕ
-
--- the first where the test holds, else the second
-abbrev pub pick : {A : Type 0} → Bool → A → A → A
-pick true a b = a
-pick false a b = b
 
 -- the pixel that the bytes xs start with
 unfoldable pub firstPixel : ℕ → List ℕ → Pixel

@@ -4,7 +4,8 @@ use mathlib.Core.Bool.{Bool, false}
 use Prim.Native.Nat.{ℕ, _*_}
 use lib.Dec.{ltb, leb, eqb}
 use lib.ListN.{getD}
-use Rattle.picture.specs.Pixels.{Pixel, pick}
+use Rattle.base.specs.Picks.{pick}
+use Rattle.picture.specs.Pixels.{Pixel}
 
 -- a refusal's number and its two values
 --   1 bpp not in the depth table (bpp), 2 width or height 0, 3 width or height above 8,192 (width, height),
@@ -53,7 +54,7 @@ pub record Frame : Type 0 where
 
 -- a refusal before the stream, or the frame with the format's number
 pub data Checked : Type 0 where
-  rejected : Refusal → Checked
+  refused : Refusal → Checked
   accepted : Frame → ℕ → Checked
 
 unfoldable pub accept : Depth → ℕ → ℕ → Checked
@@ -62,17 +63,17 @@ accept d w h = accepted (record { bytes = d .bytes; white = d .white; black = d 
 -- refusals 1 to 3
 unfoldable pub checked : ℕ → ℕ → ℕ → Checked
 checked bpp w h =
-    pick (leb 4 (depthIndex bpp)) (rejected (refusal 1 bpp 0))
-    (pick (eqb w 0) (rejected (refusal 2 0 0))
-    (pick (eqb h 0) (rejected (refusal 2 0 0))
-    (pick (ltb 8192 w) (rejected (refusal 3 w h))
-    (pick (ltb 8192 h) (rejected (refusal 3 w h)) (accept (depthOf bpp) w h)))))
+    pick (leb 4 (depthIndex bpp)) (refused (refusal 1 bpp 0))
+    (pick (eqb w 0) (refused (refusal 2 0 0))
+    (pick (eqb h 0) (refused (refusal 2 0 0))
+    (pick (ltb 8192 w) (refused (refusal 3 w h))
+    (pick (ltb 8192 h) (refused (refusal 3 w h)) (accept (depthOf bpp) w h)))))
 
 -- refusal 4, for a target of `given` bytes
 unfoldable pub withSpace : ℕ → Checked → Checked
-withSpace given (rejected r) = rejected r
+withSpace given (refused r) = refused r
 withSpace given (accepted f k) =
-    pick (ltb given (f .total * f .bytes)) (rejected (refusal 4 (f .total * f .bytes) given)) (accepted f k)
+    pick (ltb given (f .total * f .bytes)) (refused (refusal 4 (f .total * f .bytes) given)) (accepted f k)
 
 -- a picture's bytes, or refusal 1, 2 or 3
 pub data Size : Type 0 where
@@ -80,7 +81,7 @@ pub data Size : Type 0 where
   refused : Refusal → Size
 
 unfoldable pub sizeOf : Checked → Size
-sizeOf (rejected r) = refused r
+sizeOf (refused r) = refused r
 sizeOf (accepted f k) = bytes (f .total * f .bytes)
 
 -- a slice of `given` bytes has space for the whole picture

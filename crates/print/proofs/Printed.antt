@@ -7,7 +7,7 @@ use native.Mathlib.Omega.{arith}
 use lib.ListN.{length, length-append}
 use borrow.Author.Tests.{lt-ltb, le-ltb}
 use Rattle.print.specs.Digits.{decimalIn, decimal, hexDigit, hexPairs}
-use Rattle.print.proofs.Tests.{by-less}
+use Rattle.base.proofs.Tests.{by-less}
 
 -- ---- decimal
 

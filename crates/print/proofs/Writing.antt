@@ -12,7 +12,7 @@ use Rattle.print.specs.Text.{line}
 use Rattle.print.specs.Digits.{hexPairs, eachOf}
 use Rattle.print.specs.Writes.{Writes, largest}
 use Rattle.print.proofs.Printed.{pairs-append}
-use Rattle.print.proofs.Tests.{by-less}
+use Rattle.base.proofs.Tests.{by-less}
 
 sets-append : (l : List ℕ) (i : ℕ) (xs ys : List ℕ) → sets l i (xs ++ ys) ≡ sets (sets l i xs) (i + length xs) ys
 sets-append l i [] ys = rw add-zero

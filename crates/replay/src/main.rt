@@ -1,11 +1,12 @@
-// Decodes the streams of the file data/answers, counts their orders without a target, and compares each answer with the one that is
-// stored beside it.
+// Decodes the streams of the file data/answers, counts their orders without a target, and compares each report with the one that is
+// stored beside the stream.
 //
-// A record: width, height, bpp, then the stored answer: format (0: none), refusal (0: none), its two values, pixels, orders, and the
+// A record: width, height, bpp, then the stored report: format (0: none), refusal (0: none), its two values, pixels, orders, and the
 // checksum of the target, which is preset to 0x55 and as long as the picture (64 bytes where there is no picture); then the stream's
 // length and the stream. Each number is four bytes, low byte first.
 ghost use Prim.Native.Nat.{_<_, _≤_};
 ghost use lib.ListN.{length};
+use base::widen;
 use libc::STDOUT_FILENO;
 
 struct Picture {
@@ -14,8 +15,8 @@ struct Picture {
     bpp: usize,
 }
 
-// What one call answers, as numbers, and the checksum of its target.
-struct Answer {
+// A report in numbers, with the target's checksum.
+struct Numbers {
     format: usize,
     refusal: usize,
     first: usize,
@@ -28,12 +29,6 @@ struct Answer {
 struct Tally {
     streams: usize,
     differ: usize,
-}
-
-fn widen(x: u8) -> usize
-    ensures { λ r. ⌜ r < 256 ⌝ }
-{
-    x as usize
 }
 
 fn byte_at(s: &[u8], at: usize) -> usize
@@ -83,7 +78,7 @@ fn target_len(p: Picture) -> usize {
     }
 }
 
-// What a record stores: the picture, and the answer.
+// What a record stores: the picture, and the report.
 fn picture_at(records: &[u8], at: usize) -> Picture
     requires { ⌜ at < 524288 ⌝ }
 {
@@ -94,10 +89,10 @@ fn picture_at(records: &[u8], at: usize) -> Picture
     }
 }
 
-fn answer_at(records: &[u8], at: usize) -> Answer
+fn numbers_at(records: &[u8], at: usize) -> Numbers
     requires { ⌜ at < 524288 ⌝ }
 {
-    Answer {
+    Numbers {
         format: number_at(records, at + 12),
         refusal: number_at(records, at + 16),
         first: number_at(records, at + 20),
@@ -108,7 +103,7 @@ fn answer_at(records: &[u8], at: usize) -> Answer
     }
 }
 
-fn same(a: Answer, b: Answer) -> bool {
+fn same(a: Numbers, b: Numbers) -> bool {
     a.format == b.format
         && a.refusal == b.refusal
         && a.first == b.first
@@ -118,11 +113,10 @@ fn same(a: Answer, b: Answer) -> bool {
         && a.sum == b.sum
 }
 
-// A report as numbers, beside the checksum of a target.
-fn answer_of(r: rle::Report, sum: usize) -> Answer {
+fn in_numbers(r: rle::Report, sum: usize) -> Numbers {
     let o = r.outcome;
     let n = picture::numbers_of(o);
-    Answer {
+    Numbers {
         format: n.format,
         refusal: n.refusal,
         first: n.first,
@@ -133,19 +127,19 @@ fn answer_of(r: rle::Report, sum: usize) -> Answer {
     }
 }
 
-// What decoding answers, in a target that is preset first.
-fn decoded(stream: &[u8], target: &mut [u8], p: Picture) -> Answer {
+// The report of decoding into a target that is preset first.
+fn decoded(stream: &[u8], target: &mut [u8], p: Picture) -> Numbers {
     preset(target);
     let r = rle::decompress(stream, target, p.width, p.height, p.bpp);
-    answer_of(r, checksum(target))
+    in_numbers(r, checksum(target))
 }
 
-// What counting the stream's orders answers, which has no target.
-fn counted(stream: &[u8], p: Picture, sum: usize) -> Answer {
-    answer_of(rle::count_orders(stream, p.width, p.height, p.bpp), sum)
+// The report of counting the stream's orders, which has no target of its own.
+fn counted(stream: &[u8], p: Picture, sum: usize) -> Numbers {
+    in_numbers(rle::count_orders(stream, p.width, p.height, p.bpp), sum)
 }
 
-// Whether the record at `at`, whose stream is given, is answered as stored.
+// Whether the record at `at`, whose stream is given, has the reports that are stored.
 fn agrees(records: &[u8], at: usize, stream: &[u8], target: &mut [u8]) -> bool
     requires { ⌜ at < 524288 ⌝ }
 {
@@ -154,7 +148,7 @@ fn agrees(records: &[u8], at: usize, stream: &[u8], target: &mut [u8]) -> bool
     if target.len() < n {
         return false;
     }
-    let stored = answer_at(records, at);
+    let stored = numbers_at(records, at);
     let a = decoded(stream, &mut target[..n], p);
     if !same(a, stored) {
         return false;

@@ -15,7 +15,7 @@ use Rattle.rle.specs.declared.report.Report.{Report}
 use Rattle.picture.specs.declared.outcome.RleError.{RleError}
 use Rattle.picture.specs.declared.outcome.RleError.the-variants.{BufferTooShort}
 use Rattle.picture.specs.Pixels.{bytesOf}
-use Rattle.picture.specs.Sizes.{Frame, Depth, depthOf, Checked, rejected, accept, checked, withSpace, bytes, refused, sizeOf}
+use Rattle.picture.specs.Sizes.{Frame, Depth, depthOf, Checked, refused, accept, checked, withSpace, bytes, sizeOf}
 use Rattle.definition.specs.Decode.{State, thenRun, decode, resultOf, ofRun, ofChecked, resultIn, Summary}
 use Rattle.definition.specs.Plan.{endWith}
 use Rattle.picture.specs.Outcomes.{refusalOf, depthIn}
@@ -25,15 +25,15 @@ use Rattle.rle.specs.Orders.{Decodes, runIn}
 use Rattle.rle.specs.Reporting.{refusalAfter, formatAfter, summaryAfter, notDecoded}
 use Rattle.rle.proofs.Pixels.{length-pixelsOf, bytes-pixels}
 use Rattle.picture.proofs.Depths.{Good, depth-good}
-use Rattle.picture.proofs.Sizes.{few, sized, size-rejected}
+use Rattle.picture.proofs.Sizes.{few, sized, size-refused}
 use Rattle.definition.proofs.Bounds.{Bytes, last, decode-bounds}
 
 -- ---- refusals before the stream
 
-rejected-is : (src before : List ℕ) (total : ℕ) {c : Checked} (e : RleError) → c ≡ rejected (refusalOf e)
+refused-is : (src before : List ℕ) (total : ℕ) {c : Checked} (e : RleError) → c ≡ refused (refusalOf e)
     → Agrees src before before total (notDecoded e) (ofChecked src c)
 unfolding ofChecked bytesOf
-rejected-is src before total e p =
+refused-is src before total e p =
     rw p
     (record {
       report = refl;
@@ -45,12 +45,12 @@ rejected-is src before total e p =
     })
 
 module _ (src before : List ℕ) (bpp w h : ℕ) {r : Report} {e : RleError} (is : r ≡ notDecoded e) where
-  pub reports-rejected : refused (refusalOf e) ≡ sizeOf (checked bpp w h) → Decompresses src bpp w h before before r
+  pub reports-refused : refused (refusalOf e) ≡ sizeOf (checked bpp w h) → Decompresses src bpp w h before before r
   unfolding resultIn withSpace
-  reports-rejected s =
+  reports-refused s =
       rw is
-      (rejected-is src before (w * h) e
-      (ap (λ (c : Checked). withSpace (length before) c) (size-rejected (checked bpp w h) (refusalOf e) s)))
+      (refused-is src before (w * h) e
+      (ap (λ (c : Checked). withSpace (length before) c) (size-refused (checked bpp w h) (refusalOf e) s)))
 
   pub reports-short : (n : ℕ) → bytes n ≡ sizeOf (checked bpp w h) → length before < n → e ≡ BufferTooShort n (length before)
       → Decompresses src bpp w h before before r
@@ -58,7 +58,7 @@ module _ (src before : List ℕ) (bpp w h : ℕ) {r : Report} {e : RleError} (is
   reports-short n s l q =
       let k = sized bpp w h n s in
       rw is
-      (rejected-is src before (w * h) e
+      (refused-is src before (w * h) e
       (rw (k .checks, q, k .size) (rw (lt-ltb (length before) (w * h * depthOf bpp .bytes) (rw (k .size) at l)))))
 
 -- ---- the stream

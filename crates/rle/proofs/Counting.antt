@@ -8,7 +8,7 @@ use Rattle.rle.specs.declared.report.Report.{Report}
 use Rattle.rle.specs.declared.state.Stepped.{Stepped}
 use Rattle.picture.specs.Sizes.{Frame, depthOf, accept, checked, bytes, refused, sizeOf}
 use Rattle.picture.specs.Outcomes.{refusalOf, depthIn}
-use Rattle.picture.proofs.Sizes.{sized, size-rejected}
+use Rattle.picture.proofs.Sizes.{sized, size-refused}
 use Rattle.definition.specs.Decode.{decode, resultOf, ofRun, ofChecked, result, summaryOf}
 use Rattle.definition.specs.Plan.{Progress, progressOf}
 use Rattle.rle.specs.Report.{summaryIn}
@@ -17,11 +17,11 @@ use Rattle.rle.specs.Walks.{WalksStream}
 use Rattle.rle.specs.Reporting.{summaryAfter, notDecoded}
 use Rattle.rle.proofs.Calls.{result-is}
 
-pub counts-rejected : (src : List ℕ) (bpp w h : ℕ) {r : Report} {e : RleError} → r ≡ notDecoded e → refused (refusalOf e) ≡ sizeOf (checked bpp w h)
+pub counts-refused : (src : List ℕ) (bpp w h : ℕ) {r : Report} {e : RleError} → r ≡ notDecoded e → refused (refusalOf e) ≡ sizeOf (checked bpp w h)
     → summaryIn r ≡ summaryOf (result src bpp w h)
 unfolding result ofChecked
-counts-rejected src bpp w h {e = e} is s =
-    rw (is, size-rejected (checked bpp w h) (refusalOf e) s)
+counts-refused src bpp w h {e = e} is s =
+    rw (is, size-refused (checked bpp w h) (refusalOf e) s)
 
 counts-run : (f : Frame) (k : ℕ) (src : List ℕ) (s : Stepped) → WalksStream f src s → (r : Report) → summaryIn r ≡ summaryAfter (s .ending) k (s .state .pixels) (s .state .orders)
     → summaryIn r ≡ summaryOf (ofRun f k (decode f src))

@@ -8,12 +8,12 @@ use lib.ListN.{drop}
 use borrow.Author.Tests.{lt-ltb, le-ltb, ltb-true, ltb-false}
 use Rattle.rle.specs.declared.state.Frame.{Frame as CodeFrame}
 use Rattle.rle.specs.declared.state.State.{State as CodeState}
-use Rattle.picture.specs.Pixels.{pick}
+use Rattle.base.specs.Picks.{pick}
 use Rattle.definition.specs.Orders.{headOf}
 use Rattle.definition.specs.Decode.{State, orderFrom, endFirstRow, step}
 use Rattle.rle.specs.States.{Invariant, frameOf, stateOf, rowAbove, firstRowEnded}
 use Rattle.rle.proofs.Pixels.{length-pixelsOf}
-use Rattle.definition.proofs.Headers.{both}
+use Rattle.base.proofs.Tests.{both-true}
 
 -- the marks of a row that stays
 kept : (first stays insert : Bool) → (first ≡ true → stays ≡ true)
@@ -47,7 +47,7 @@ module _ (f : CodeFrame) (s : CodeState) where
   row-ends on h = rw (on, le-ltb (s .pixels) (f .width) h)
 
   pub row-begun : firstRowEnded f s .«first_row» ≡ true → s .pixels < f .width
-  row-begun e = ltb-true (s .pixels) (f .width) (both (s .«first_row») (ltb (s .pixels) (f .width)) e .1)
+  row-begun e = ltb-true (s .pixels) (f .width) (both-true (s .«first_row») (ltb (s .pixels) (f .width)) e .1)
 
   -- the code's is the definition's
   pub mark-is : (src dst : List ℕ) → stateOf (frameOf f) src dst (firstRowEnded f s) ≡ endFirstRow (frameOf f) (stateOf (frameOf f) src dst s)

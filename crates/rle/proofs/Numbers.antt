@@ -11,9 +11,9 @@ use lib.ListN.{getD, drop, replicate, List·getD-map, List·getD-eq-default}
 use borrow.Author.Tests.{lt-ltb, le-ltb, ltb-true, ltb-false, ne-eqb}
 use Rattle.rle.specs.declared.head.RunLength.{RunLength as CodeLength}
 use Rattle.rle.specs.declared.head.RunLength.the-variants.{Of}
-use Rattle.picture.specs.Pixels.{pick}
+use Rattle.base.specs.Picks.{pick}
 use Rattle.picture.specs.Sizes.{refusal}
-use Rattle.picture.proofs.Tests.{by-test}
+use Rattle.base.proofs.Tests.{by-test}
 use Rattle.definition.specs.Orders.{White, Black, NoOrder, Row, rows, row, noRow, rowOf, runLength, lengthOf}
 use Rattle.definition.specs.Codes.{kindRow, kindOf, kindNumber, lengthNumber}
 use Rattle.definition.specs.Plan.{counts, refused, runCounts, countsOf, leavesInsert, leaves, insertIn}

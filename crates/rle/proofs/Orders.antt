@@ -15,9 +15,10 @@ use Rattle.rle.specs.declared.paint.Mode.{Mode}
 use Rattle.rle.specs.declared.paint.Mode.the-variants.{Solid, Above, AboveXor}
 use Rattle.rle.specs.declared.paint.Ink.{Ink as CodeInk}
 use Rattle.rle.specs.declared.plan.Plan.{Plan as CodePlan}
-use Rattle.picture.specs.Pixels.{Pixel, pick, OfDepth}
+use Rattle.base.specs.Picks.{pick}
+use Rattle.picture.specs.Pixels.{Pixel, OfDepth}
 use Rattle.picture.specs.Sizes.{refusal, Frame}
-use Rattle.picture.proofs.Tests.{by-test}
+use Rattle.base.proofs.Tests.{by-test}
 use Rattle.definition.specs.Orders.{Kind, FgBgImage, SetFgBgImage, SpecialFgBg1, SpecialFgBg2, White, Black, NoOrder}
 use Rattle.definition.specs.Decode.{solid, fgInk, bgInk, insertInk, maskInk, State, state, room, orderOf}
 use Rattle.definition.specs.Plan.{refused, Counts, counts, behind, withOperands, runCounts, countsOf, leavesInsert, newForeground, foregroundBy, insertAfter, ordersAfter, imageInk, kindInk, endWith, Left, anInsert, aForeground, nothing, leaves, insertIn, foregroundIn}

@@ -14,7 +14,8 @@ use lib.Seq.{drop-drop, getD-drop}
 use Rattle.rle.specs.declared.paint.Mode.{Mode}
 use Rattle.rle.specs.declared.paint.Mode.the-variants.{Solid, Above, AboveXor}
 use Rattle.rle.specs.declared.paint.Ink.{Ink as CodeInk}
-use Rattle.picture.specs.Pixels.{Pixel, pick, firstPixel, pixelAt, xorPixel, OfDepth}
+use Rattle.base.specs.Picks.{pick}
+use Rattle.picture.specs.Pixels.{Pixel, firstPixel, pixelAt, xorPixel, OfDepth}
 use Rattle.definition.specs.Decode.{Ink, solid, color, paint, pixelAbove, insertInk, maskInk, ditherInk}
 use Rattle.definition.specs.Plan.{imageInk}
 use Rattle.rle.specs.Stored.{pixelsOf, storePixel}

@@ -11,7 +11,7 @@ use Rattle.picture.specs.declared.outcome.Outcome.{Outcome}
 use Rattle.picture.specs.declared.outcome.Outcome.the-variants.{Ok, Err}
 use Rattle.picture.specs.declared.outcome.RleError.the-variants.{InvalidBpp, EmptyImage, DimensionsTooLarge, BufferTooShort, BadOrderCode, NotEnoughBytes, InvalidImageSize, UnexpectedZeroLength}
 use Rattle.picture.specs.Pixels.{bytesOf}
-use Rattle.picture.specs.Sizes.{Refusal, Checked, rejected, accepted, checked, withSpace}
+use Rattle.picture.specs.Sizes.{Refusal, Checked, refused, accepted, checked, withSpace}
 use Rattle.definition.specs.Decode.{Result, ofChecked, result, resultIn, Summary}
 use Rattle.picture.specs.Outcomes.{refusalIn}
 use Rattle.rle.specs.Report.{Agrees, Decompresses}
@@ -19,7 +19,7 @@ use Rattle.rle.specs.Guarantees.{spaceFor, HasSpace, Defined, NoOldByte,
 
 space-is : (given : ℕ) (c : Checked) → spaceFor given c → withSpace given c ≡ c
 unfolding withSpace
-space-is given (rejected r) h = refl
+space-is given (refused r) h = refl
 space-is given (accepted f k) h = rw (le-ltb given (f .total * f .bytes) h)
 
 -- with space the call's result is that of the definition, which sees no target

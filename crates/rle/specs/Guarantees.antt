@@ -9,13 +9,13 @@ use Rattle.rle.specs.declared.report.Report.{Report}
 use Rattle.picture.specs.declared.outcome.Outcome.{Outcome}
 use Rattle.picture.specs.declared.outcome.Outcome.the-variants.{Ok, Err}
 use Rattle.picture.specs.Pixels.{bytesOf}
-use Rattle.picture.specs.Sizes.{Checked, rejected, accepted, checked}
+use Rattle.picture.specs.Sizes.{Checked, refused, accepted, checked}
 use Rattle.definition.specs.Decode.{result, summaryOf}
 use Rattle.rle.specs.Report.{summaryIn}
 
 -- a target of `given` bytes has space for the picture; where refusal 1, 2 or 3 comes, every target has
 abbrev pub spaceFor : ℕ → Checked → Type 0
-spaceFor given (rejected r) = Unit {0}
+spaceFor given (refused r) = Unit {0}
 spaceFor given (accepted f k) = f .total * f .bytes ≤ given
 
 abbrev pub HasSpace : List ℕ → ℕ → ℕ → ℕ → Type 0

@@ -1,7 +1,7 @@
 -- What the plan functions promise: the definition's counts.
 use Prim.Native.Nat.{ℕ}
 use lib.Dec.{ltb, eqb}
-use Rattle.picture.specs.Pixels.{pick}
+use Rattle.base.specs.Picks.{pick}
 use Rattle.picture.specs.Outcomes.{refusalOf}
 use Rattle.definition.specs.Orders.{Kind, FgBgImage, SetFgBgImage, SpecialFgBg1, SpecialFgBg2, White, Black, NoOrder}
 use Rattle.definition.specs.Plan.{Ending, complete, refused, Counts, counts}

@@ -5,7 +5,8 @@ use mathlib.Core.List.{List}
 use Prim.Native.Nat.{ℕ, _+_, _*_, _≤_}
 use lib.Dec.{ltb}
 use lib.ListN.{drop}
-use Rattle.picture.specs.Pixels.{Pixel, OfDepth, pick}
+use Rattle.base.specs.Picks.{pick}
+use Rattle.picture.specs.Pixels.{Pixel, OfDepth}
 use Rattle.picture.specs.Sizes.{Frame}
 use Rattle.definition.specs.Decode.{State}
 use Rattle.definition.specs.Plan.{insertAfter, ordersAfter}

@@ -2,6 +2,7 @@
 ghost use mathlib.Core.Path.{_≡_};
 ghost use Prim.Native.Nat.{_<_};
 ghost use Rattle.definition.specs.Codes.{kindNumber, kinds, lengthNumber, lengths};
+use base::widen;
 
 // The kind of each header byte, by its number in the definition's table: 0 background run, 1 foreground run, 2 fg/bg image,
 // 3 color run, 4 color image, 5 set-foreground run, 6 set-foreground fg/bg image, 7 dithered run, 8 and 9 special fg/bg 1 and 2,
@@ -524,13 +525,6 @@ const LENGTHS: [u8; 256] = [
     1,
     1,
 ];
-
-// A byte as a number.
-pub(crate) fn widen(x: u8) -> usize
-    ensures { λ r. ⌜ r ≡ x ⌝ }
-{
-    x as usize
-}
 
 // The tables, to be made once a call and lent from then on: as constants they would be built anew at every lookup.
 pub(crate) fn header_kinds() -> [u8; 256]

@@ -6,7 +6,7 @@ ghost use mathlib.Core.Path.{_≡_};
 ghost use mathlib.Core.Bool.{false};
 ghost use Prim.Native.Nat.{_*_, _≤_, _<_, min};
 ghost use lib.Dec.{ltb, leb, eqb};
-ghost use Rattle.picture.specs.Pixels.{pick};
+ghost use Rattle.base.specs.Picks.{pick};
 ghost use Rattle.picture.specs.Sizes.{refusal};
 ghost use Rattle.definition.specs.Orders as orders;
 ghost use Rattle.definition.specs.Plan as plan;

@@ -4,7 +4,7 @@ ghost use mathlib.Core.List.{List};
 ghost use Prim.Native.Nat.{ℕ, _≤_};
 ghost use lib.Dec.{eqb};
 ghost use lib.ListN.{length};
-ghost use Rattle.picture.specs.Pixels.{pick};
+ghost use Rattle.base.specs.Picks.{pick};
 ghost use Rattle.definition.specs.Orders as orders;
 ghost use Rattle.definition.specs.Decode as decode;
 ghost use Rattle.rle.specs.Planning.{pixelKind};

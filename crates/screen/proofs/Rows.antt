@@ -1,4 +1,4 @@
--- Laws of the row to show: the products fit, and the part lies in both slices. Assumes nothing.
+-- Laws of the row to show: the products fit, the part lies in both slices, and where it begins. Assumes nothing.
 use mathlib.Core.Path.{_≡_, refl}
 use mathlib.Core.Bool.{Bool, true, false}
 use Prim.Native.Nat.{ℕ, _+_, _*_, _≤_, _<_}
@@ -6,11 +6,11 @@ use native.Mathlib.Nat.{mul-le-mul, mul-le-mul-right, add-mul, one-mul, mul-comm
 use native.Mathlib.Omega.{arith}
 use lib.Dec.{leb, ltb}
 use borrow.Author.Tests.{leb-true, ltb-true}
-use Rattle.picture.specs.Pixels.{pick}
+use Rattle.base.specs.Picks.{pick}
 use Rattle.picture.specs.Sizes.{checked, depthOf, Size, bytes, refused, sizeOf, hasSpace}
 use Rattle.picture.proofs.Sizes.{Sized, sized, few}
 use Rattle.picture.proofs.Depths.{depth-good}
-use Rattle.screen.specs.Rows.{RowPart, rowPart, noPart, partIn, partToShow}
+use Rattle.screen.specs.Rows.{RowPart, rowPart, noPart, partIn, partToShow, partPlace}
 
 -- ---- products
 
@@ -55,3 +55,10 @@ module _ (new pixels screen bpp w h r : ℕ) where
   pub part-inside : (p : RowPart) → p ≡ partToShow new pixels screen bpp w h r → Inside p
   unfolding partToShow
   part-inside p e = rw e (in-size (sizeOf (checked bpp w h)) refl)
+
+-- ---- its place
+
+pub part-place : (new screen : ℕ × ℕ) {p q : RowPart} → p ≡ q → (s : Bool) → p .onScreen ≡ s
+    → (pick s screen new .0, p .start + pick s screen new .1) ≡ partPlace new screen q
+unfolding partPlace
+part-place new screen e s h = rw (← e, h)

@@ -5,7 +5,8 @@ use mathlib.Core.Bool.{Bool, false}
 use Prim.Native.Nat.{ℕ, _+_, _*_}
 use lib.Dec.{ltb}
 use lib.ListN.{length, take, drop}
-use Rattle.picture.specs.Pixels.{pick}
+use denote.Ref.{RefT, ptr, now}
+use Rattle.base.specs.Picks.{pick}
 use Rattle.picture.specs.Sizes.{checked, depthOf, Size, sizeOf, hasSpace}
 use Rattle.screen.specs.declared.Part.{Part}
 
@@ -44,6 +45,15 @@ partBytes new screen p = take (p .size) (drop (p .start) (pick (p .onScreen) scr
 unfoldable pub rowToShow : List ℕ → ℕ → List ℕ → ℕ → ℕ → ℕ → ℕ → List ℕ
 rowToShow new pixels screen bpp w h r =
     partBytes new screen (partToShow (length new) pixels (length screen) bpp w h r)
+
+-- where a part begins in memory, a block and a place in it, for slices that begin at `new` and `screen`
+unfoldable pub partPlace : ℕ × ℕ → ℕ × ℕ → RowPart → ℕ × ℕ
+partPlace new screen p = (pick (p .onScreen) screen new .0, p .start + pick (p .onScreen) screen new .1)
+
+-- the definition: where the row to show begins, which tells of which slice it is a part
+abbrev pub placeToShow : RefT (List ℕ) → ℕ → RefT (List ℕ) → ℕ → ℕ → ℕ → ℕ → ℕ × ℕ
+placeToShow new pixels screen bpp w h r =
+    partPlace (ptr new) (ptr screen) (partToShow (length (now new)) pixels (length (now screen)) bpp w h r)
 
 -- the part that the code's stands for
 abbrev pub partOf : Part → RowPart

@@ -2,7 +2,8 @@
 //
 // What it is, is defined in specs/Rows.antt.
 ghost use mathlib.Core.Path.{_≡_};
-ghost use Rattle.screen.specs.Rows.{noPart, partOf, partToShow, rowToShow};
+ghost use denote.Ref.{ptr};
+ghost use Rattle.screen.specs.Rows.{noPart, partOf, partToShow, placeToShow, rowToShow};
 use picture::PictureSize;
 
 // A part of the new picture or of the one on screen, in bytes.
@@ -58,7 +59,8 @@ pub fn part_to_show(
     }
 }
 
-// Row r of the new picture, of which so many pixels are painted, or the same part of the one on screen.
+// Row r of the new picture, of which so many pixels are painted, or the same part of the one on screen: its bytes, and of which of the
+// two slices it is a part, told by its place in memory.
 pub fn row_to_show<'a>(
     new: &'a [u8],
     pixels: usize,
@@ -69,6 +71,7 @@ pub fn row_to_show<'a>(
     r: usize,
 ) -> &'a [u8]
     ensures { λ s. ⌜ now s ≡ rowToShow (now (new .entry)) pixels (now (screen .entry)) bpp width height r ⌝ }
+    ensures { λ s. ⌜ ptr s ≡ placeToShow (new .entry) pixels (screen .entry) bpp width height r ⌝ }
 {
     let part = part_to_show(new.len(), pixels, screen.len(), bpp, width, height, r);
     let from = part.start;

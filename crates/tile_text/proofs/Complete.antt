@@ -6,13 +6,13 @@ use Prim.Native.Nat.{ℕ, zero, suc, _+_, _*_, _/_, _%_, _^_, _<_}
 use native.Mathlib.Omega.{arith}
 use native.Mathlib.Nat.{pow-suc}
 use borrow.Author.Tests.{ne-eqb, lt-ltb}
-use Rattle.picture.specs.Pixels.{pick}
+use Rattle.base.specs.Picks.{pick}
 use Rattle.print.specs.Text.{ascii, line}
 use Rattle.print.specs.Digits.{decimalIn, decimal, hexDigit, hexPairs}
 use Rattle.tile_text.specs.Text.{textOf, Bytes, Tile}
 use Rattle.tile_text.specs.Parse.{keys, keyByte, start, withValue, endNumber, countMore, byteRead, goesOn, numberDigit, numberStep, streamStep, keyStep, step, fed}
 use Rattle.tile_text.specs.declared.parser.Parser.{Parser}
-use Rattle.print.proofs.Tests.{by-less}
+use Rattle.base.proofs.Tests.{by-less}
 use Rattle.print.proofs.Printed.{in-small, in-more, not-line-feed}
 use Rattle.tile_text.proofs.Digits.{decimal-value, hex-value}
 use Rattle.tile_text.proofs.Steps.{step-number, step-stream, value-ended, value-read}

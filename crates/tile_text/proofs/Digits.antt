@@ -6,8 +6,7 @@ use lib.Dec.{ltb, leb}
 use borrow.Author.Tests.{lt-ltb, le-ltb, le-leb, lt-leb, ltb-false}
 use Rattle.print.specs.Digits.{hexDigit}
 use Rattle.tile_text.specs.Parse.{digitAmong, decimalValue, hexValue}
-use Rattle.picture.proofs.Tests.{by-test}
-use Rattle.print.proofs.Tests.{by-less}
+use Rattle.base.proofs.Tests.{by-test, by-less}
 use Rattle.print.proofs.Printed.{hex-low, hex-high}
 
 -- ---- digits that follow one another

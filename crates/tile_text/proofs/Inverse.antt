@@ -10,14 +10,14 @@ use lib.Dec.{eqb}
 use lib.ListN.{length, getD, take}
 use lib.Seq.{ext-getD, getD-take, length-take-le}
 use borrow.Author.Tests.{eq-eqb, ne-eqb, lt-ltb, eqb-true, eqb-false}
-use Rattle.picture.specs.Sizes.{Checked, rejected, accepted, checked, sizeOf}
+use Rattle.picture.specs.Sizes.{Checked, refused, accepted, checked, sizeOf}
 use Rattle.definition.specs.Decode.{ofChecked, result}
 use Rattle.tile_text.specs.Text.{textOf, Tile}
 use Rattle.tile_text.specs.Answer.{badTileText, limited, answerOf, Answers, tile, noTile}
 use Rattle.tile_text.specs.Parse.{start, fed, fedInto}
 use Rattle.tile_text.specs.Reply.{decoded, replyOf, Replies, RepliesTo}
 use Rattle.tile_text.specs.declared.parser.Parser.{Parser}
-use Rattle.print.proofs.Tests.{by-less}
+use Rattle.base.proofs.Tests.{by-less}
 use Rattle.tile_text.proofs.Chunks.{joined, fedChunks, intoChunks, chunks-fed, chunks-into}
 use Rattle.tile_text.proofs.Complete.{text-read, atPlace, countAll}
 use Rattle.tile_text.proofs.Sound.{inKey, inNumber, inStream, atEnd, Kept, Reads, failed, going, text-reads}
@@ -51,7 +51,7 @@ complete t w h b s g e = ap (fed start) e ∙ text-read w h b s g
 limited-result : (c : Checked) (n : ℕ) (s u : List ℕ) → n ≡ min 8193 (length u) → (length u ≤ 8192 → s ≡ u)
     → limited (sizeOf c) n (ofChecked s c) ≡ limited (sizeOf c) (length u) (ofChecked u c)
 unfolding limited sizeOf ofChecked
-limited-result (rejected r) n s u e f = refl
+limited-result (refused r) n s u e f = refl
 limited-result (accepted g k) n s u e f =
     by-less 8192 (length u) (λ long. rw (lt-ltb 8192 n (omega arith), lt-ltb 8192 (length u) long))
     (λ short. let same : n ≡ length u = omega arith in rw (same, f short))

@@ -10,7 +10,7 @@ use lib.ListN.{length, getD, take, List·getD-eq-default}
 use lib.Seq.{take-suc, take-all}
 use Rattle.print.specs.Text.{ascii}
 use Rattle.tile_text.specs.Parse.{keys, keyByte}
-use Rattle.print.proofs.Tests.{by-less}
+use Rattle.base.proofs.Tests.{by-less}
 use Rattle.tile_text.proofs.Tests.{below, at}
 
 abbrev pub keyOf : ℕ → List ℕ

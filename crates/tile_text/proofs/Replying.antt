@@ -8,8 +8,9 @@ use lib.Dec.{ltb, eqb}
 use lib.ListN.{length, take, length-append, length-drop}
 use lib.Seq.{take-append-seam}
 use borrow.Author.Tests.{eq-eqb, ne-eqb, lt-ltb, le-ltb}
-use Rattle.picture.specs.Pixels.{pick, bytesOf}
-use Rattle.picture.specs.Sizes.{Refusal, refusal, Checked, rejected, accepted, Frame, checked, accept, depthOf, bytes, refused, sizeOf}
+use Rattle.base.specs.Picks.{pick}
+use Rattle.picture.specs.Pixels.{bytesOf}
+use Rattle.picture.specs.Sizes.{Refusal, refusal, Checked, refused, accepted, Frame, checked, accept, depthOf, bytes, sizeOf}
 use Rattle.definition.specs.Decode.{Result, Run, ended, paused, ofChecked, ofRun, resultOf, decode, result, Summary, summary}
 use Rattle.rle.specs.Report.{summaryIn, Agrees, Decompresses}
 use Rattle.rle.specs.declared.report.Report.{Report}
@@ -22,11 +23,9 @@ use Rattle.tile_text.specs.Reply.{decoded, replyOf, Replies}
 use Rattle.tile_text.specs.Contracts.{fieldsOf, fieldLines, Answered}
 use Rattle.tile_text.specs.declared.parser.Parser.{Parser}
 use Rattle.tile_text.specs.declared.lines.Fields.{Fields}
-use Rattle.print.proofs.Tests.{by-less}
+use Rattle.base.proofs.Tests.{by-less, by-test, apart}
 use Rattle.print.proofs.Printed.{decimal-length, pairs-length}
 use Rattle.print.proofs.Writing.{writes-as, from-start}
-use Rattle.picture.proofs.Tests.{by-test}
-use Rattle.tile_text.proofs.Tests.{apart}
 
 -- ---- refusals before the stream
 
@@ -34,10 +33,10 @@ nothing-painted : (r : Refusal) (xs : List ℕ) (v : Fields) → v ≡ fieldsOf 
 unfolding refusedWith bytesOf
 nothing-painted r xs v e = record { fields = e; target = refl; fits = omega arith }
 
-rejected-result : (c : Checked) (r : Refusal) (stream : List ℕ) → refused r ≡ sizeOf c → ofChecked stream c ≡ refusedWith r
+refused-result : (c : Checked) (r : Refusal) (stream : List ℕ) → refused r ≡ sizeOf c → ofChecked stream c ≡ refusedWith r
 unfolding sizeOf ofChecked refusedWith
-rejected-result (rejected q) r stream e = let same : q ≡ r = cc in rw same
-rejected-result (accepted f k) r stream e = apart cc
+refused-result (refused q) r stream e = let same : q ≡ r = cc in rw same
+refused-result (accepted f k) r stream e = apart cc
 
 fit-limited : (c : Checked) (n streamBytes : ℕ) (e : Result) → bytes n ≡ sizeOf c
     → limited (sizeOf c) streamBytes e ≡ pick (ltb 65536 n) tileTooLarge (pick (ltb 8192 streamBytes) tileTooLarge e)
@@ -54,7 +53,7 @@ module _ (p : Parser) (stream xs : List ℕ) (v : Fields) where
         → Answered (replyOf p stream) xs xs v
     unfolding replyOf decoded result limited
     answered-refused r s e =
-        rw (eq-eqb _ _ whole, ← s, rejected-result (checked (p .bpp) (p .width) (p .height)) r (take (p .count) stream) s) (nothing-painted r xs v e)
+        rw (eq-eqb _ _ whole, ← s, refused-result (checked (p .bpp) (p .width) (p .height)) r (take (p .count) stream) s) (nothing-painted r xs v e)
 
     module _ (n : ℕ) (size : bytes n ≡ sizeOf (checked (p .bpp) (p .width) (p .height))) where
       -- the picture is over its limit, or else the stream is

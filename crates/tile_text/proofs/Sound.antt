@@ -9,14 +9,13 @@ use lib.Dec.{ltb, eqb}
 use lib.ListN.{length, getD, take, set, length-append, length-set, List·getD-append}
 use lib.Seq.{getD-set-same, getD-set-other, getD-append-seam}
 use borrow.Author.Tests.{ltb-true, ltb-false, eqb-true, eqb-false}
-use Rattle.picture.specs.Pixels.{pick}
+use Rattle.base.specs.Picks.{pick}
 use Rattle.print.specs.Text.{ascii, line}
 use Rattle.print.specs.Digits.{decimal, hexDigit, hexPairs}
 use Rattle.tile_text.specs.Text.{textOf, Bytes}
 use Rattle.tile_text.specs.Parse.{keys, keyByte, decimalValue, hexValue, start, onLine, bad, keyRead, withValue, nextLine, endNumber, countMore, byteRead, goesOn, numberDigit, step, endsByte, stored, fed, fedInto}
 use Rattle.tile_text.specs.declared.parser.Parser.{Parser}
-use Rattle.picture.proofs.Tests.{by-test}
-use Rattle.print.proofs.Tests.{by-less}
+use Rattle.base.proofs.Tests.{by-test, by-less}
 use Rattle.tile_text.proofs.Keys.{keyOf, key-over, key-more}
 use Rattle.tile_text.proofs.Digits.{decimal-digit, hex-digit}
 use Rattle.print.proofs.Printed.{decimal-small, decimal-more, pairs-append}

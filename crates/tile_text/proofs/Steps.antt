@@ -9,8 +9,7 @@ use lib.ListN.{set}
 use borrow.Author.Tests.{eq-eqb, ne-eqb, lt-ltb, le-ltb, ltb-true, eqb-true, eqb-false}
 use Rattle.tile_text.specs.Parse.{keyByte, decimalValue, hexValue, onLine, bad, keyRead, withValue, endNumber, byteRead, goesOn, numberDigit, valueStep, numberStep, streamStep, keyStep, step, endsByte, stored}
 use Rattle.tile_text.specs.declared.parser.Parser.{Parser}
-use Rattle.picture.proofs.Tests.{by-test}
-use Rattle.tile_text.proofs.Tests.{apart}
+use Rattle.base.proofs.Tests.{by-test, apart}
 use Rattle.tile_text.proofs.Keys.{past-lines}
 
 pub clash : {A : Type 0} {t : Bool} → t ≡ true → t ≡ false → A

@@ -4,12 +4,8 @@ use mathlib.Core.Bool.{Bool, true, false}
 use Prim.Native.Nat.{ℕ, zero, suc, _<_}
 use native.Mathlib.Omega.{arith}
 use lib.Dec.{T}
-use Rattle.picture.specs.Pixels.{pick}
-use Rattle.print.proofs.Tests.{by-less}
-
--- what is so by `cc` where two constructors that differ are equal
-pub apart : {A : Type 0} → _≡_ {A = ℕ} 0 1 → A
-apart e = absurd (omega arith)
+use Rattle.base.specs.Picks.{pick}
+use Rattle.base.proofs.Tests.{by-less}
 
 -- the test passes at each number below n
 abbrev pub below : (ℕ → Bool) → ℕ → Bool

@@ -6,7 +6,8 @@ use mathlib.Core.List.{List, [], _++_}
 use Prim.Native.Nat.{ℕ}
 use lib.Dec.{ltb, eqb}
 use lib.ListN.{length}
-use Rattle.picture.specs.Pixels.{pick, bytesOf}
+use Rattle.base.specs.Picks.{pick}
+use Rattle.picture.specs.Pixels.{bytesOf}
 use Rattle.picture.specs.Sizes.{Refusal, refusal, checked, Size, bytes, refused, sizeOf}
 use Rattle.definition.specs.Decode.{Result, result, Summary, summaryOf}
 use Rattle.print.specs.Text.{ascii, line}

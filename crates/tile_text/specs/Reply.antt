@@ -5,7 +5,8 @@ use mathlib.Core.List.{List, _++_}
 use Prim.Native.Nat.{ℕ, _*_, _≤_}
 use lib.Dec.{eqb}
 use lib.ListN.{length, take, drop}
-use Rattle.picture.specs.Pixels.{pick, bytesOf}
+use Rattle.base.specs.Picks.{pick}
+use Rattle.picture.specs.Pixels.{bytesOf}
 use Rattle.picture.specs.Sizes.{checked, sizeOf}
 use Rattle.definition.specs.Decode.{Result, result}
 use Rattle.tile_text.specs.Answer.{badTileText, limited, linesOf, Answers}

@@ -3,6 +3,7 @@ ghost use mathlib.Core.Path.{_≡_};
 ghost use mathlib.Core.Bool.{true};
 ghost use Prim.Native.Nat.{_≤_, _<_};
 ghost use Rattle.tile_text.specs.Parse as parse;
+use base::widen;
 
 // The line being read, 0 to 3, or `WHOLE` or `BAD`, and the place in its key.
 // After the key: whether a digit is read, and the value of the digits. Then the numbers of the lines
@@ -34,13 +35,6 @@ const NO_DIGIT: usize = 16;
 // The keys, seven places each; 0: the key is read.
 const KEYS: [u8; 28] = *b"width=\0height=bpp=\0\0\0stream=";
 
-// A byte as a number: as an argument, unlike an element, it is known to be below 256.
-fn wide(b: u8) -> usize
-    ensures { λ r. ⌜ r ≡ b ⌝ }
-{
-    b as usize
-}
-
 // The byte at a place of a line's key; 0: the key is read, or there is no such line.
 fn key_byte(line: usize, place: usize) -> usize
     ensures { λ r. ⌜ r ≡ parse.keyByte line place ⌝ }
@@ -51,7 +45,7 @@ fn key_byte(line: usize, place: usize) -> usize
     if 7 <= place {
         return 0;
     }
-    wide(KEYS[line * 7 + place])
+    widen(KEYS[line * 7 + place])
 }
 
 // The value of b as one of the digits from `first` to `last`, the first of which is worth `least`; `NO_DIGIT` where it is none of
@@ -274,7 +268,7 @@ pub fn feed(mut p: Parser, chunk: &[u8], stream: &mut [u8; 8192]) -> Parser
 {
     let mut i = 0;
     while i < chunk.len() {
-        let b = wide(chunk[i]);
+        let b = widen(chunk[i]);
         store(p, b, stream);
         p = step(p, b);
         i += 1;

@@ -4,9 +4,6 @@ use Rattle.buf.specs.Stream.{remaining}
 use Rattle.buf.proofs.left_at.Statement.{statement}
 use Rattle.buf.proofs.left_at.Tie as tie
 
-sub-result : tie.Need-sub-result
-sub-result c = search needs
-
 returns : tie.Need-returns
 unfolding remaining
 returns c = search needs
@@ -16,4 +13,6 @@ unfolding remaining
 returns-2 c = search needs
 
 pub left-at-spec : {M : Type 1} → statement M
-left-at-spec = tie.close (tie.spec sub-result returns returns-2)
+left-at-spec =
+    tie.close
+    (tie.spec (λ c. search needs) returns returns-2)

@@ -1,11 +1,6 @@
 -- `buf::peek_u16` meets its contract: it takes the reader apart and calls `u16_at`. Assumes nothing.
-use mathlib.Core.Path.{refl}
 use contract.Monad.{factI}
-use contract.Running.{givenOf}
-use denote.Enum.Laws as EL
 use Rattle.buf.specs.Stream.{u16At}
-use Rattle.buf.proofs.Read as S
-use Rattle.buf.proofs.Read.Laws as S′
 use Rattle.buf.proofs.Peek.{peek-meets}
 use Rattle.buf.proofs.u16_at.Symbol as callee
 use Rattle.buf.proofs.u16_at.Met as callee-thm
@@ -17,6 +12,5 @@ use Rattle.buf.proofs.peek_u16.Code as code
 pub peek-u16-spec : {M : Type 1} → statement M
 unfolding code.routine
 peek-u16-spec 𝓤 H 𝓜 𝓖 𝓡 =
-    peek-meets S.the-row u16At 𝓤 H 𝓜 𝓖 𝓡 (this.clauses 𝓤 H (𝓖 .A) (𝓜 .mem) (𝓡 .run)) (λ κs a g r e is. factI 𝓤 _ _ is)
-    (EL.lawful S.the-type S′.the-laws 𝓤 H (𝓖 .A) (givenOf 𝓤 H 𝓜 𝓖) tt) S′.mir refl code.env key.name callee.name (code.unfolded 𝓤 H 𝓜 𝓡)
-    callee.routine code.calls-buf·u16-at (callee-thm.met 𝓤 H 𝓜 𝓖 𝓡)
+    peek-meets u16At 𝓤 H 𝓜 𝓖 𝓡 (this.clauses 𝓤 H (𝓖 .A) (𝓜 .mem) (𝓡 .run)) (λ κs a g r e is. factI 𝓤 _ _ is)
+    code.env key.name callee.name (code.unfolded 𝓤 H 𝓜 𝓡) callee.routine code.calls-buf·u16-at (callee-thm.met 𝓤 H 𝓜 𝓖 𝓡)

@@ -5,11 +5,10 @@ use borrow.Author.Needs.{needs}
 use Rattle.picture.proofs.bytes_per_pixel.Statement.{statement}
 use Rattle.picture.proofs.bytes_per_pixel.Tie as tie
 
-depth-of-requires : tie.Need-depth-of-requires
-depth-of-requires c κs = search needs
-
 returns : tie.Need-returns
 returns c = ap (λ (d : Depth). d .bytes) (c .depth-of .ensures)
 
 pub bytes-per-pixel-spec : {M : Type 1} → statement M
-bytes-per-pixel-spec = tie.close (tie.spec depth-of-requires returns)
+bytes-per-pixel-spec =
+    tie.close
+    (tie.spec (λ c κs. search needs) returns)

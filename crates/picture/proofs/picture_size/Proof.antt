@@ -5,9 +5,6 @@ use borrow.Author.Needs.{needs}
 use Rattle.picture.proofs.picture_size.Statement.{statement}
 use Rattle.picture.proofs.picture_size.Tie as tie
 
-depth-index-requires : tie.Need-depth-index-requires
-depth-index-requires c κs = search needs
-
 returns : tie.Need-returns
 returns c =
     let a = c .before .before .args in
@@ -36,9 +33,6 @@ returns-5 c =
 mul-t4 : tie.Need-mul-t4
 mul-t4 c = omega (arith, few (c .before .if4 .left) (c .if5 .left))
 
-bytes-per-pixel-requires : tie.Need-bytes-per-pixel-requires
-bytes-per-pixel-requires c κs = search needs
-
 mul-t12 : tie.Need-mul-t12
 mul-t12 c =
     let a = c .before .before .before .before .before .before .before .args in
@@ -54,14 +48,4 @@ returns-6 c =
 pub picture-size-spec : {M : Type 1} → statement M
 picture-size-spec =
     tie.close
-    (tie.spec
-    depth-index-requires
-    returns
-    returns-2
-    returns-3
-    returns-4
-    returns-5
-    mul-t4
-    bytes-per-pixel-requires
-    mul-t12
-    returns-6)
+    (tie.spec (λ c κs. search needs) returns returns-2 returns-3 returns-4 returns-5 mul-t4 (λ c κs. search needs) mul-t12 returns-6)

@@ -13,37 +13,14 @@ Inv-loop target₀ i₀ target i = (i ≤ length target) × (length target ≡ l
 abbrev μ-loop : tie.MeasureT-loop
 μ-loop target₀ i₀ target i = length target - i
 
-loop-holds : tie.Need-loop-holds Inv-loop μ-loop
-loop-holds c = search needs
-
-slice-write-target : tie.Need-slice-write-target Inv-loop μ-loop
-slice-write-target c = search needs
-
-add-i : tie.Need-add-i Inv-loop μ-loop
-add-i c = search needs
-
 loop-less : tie.Need-loop-less Inv-loop μ-loop
 loop-less c = simp length-set (omega arith)
 
 loop-again : tie.Need-loop-again Inv-loop μ-loop
 loop-again c = (simp length-set (omega arith), simp length-set (omega arith))
 
-same-length : tie.Need-same-length Inv-loop μ-loop
-same-length c = search needs
-
-returns : tie.Need-returns Inv-loop μ-loop
-returns c = search needs
-
 pub preset-spec : {M : Type 1} → statement M
 preset-spec =
     tie.close
-    (tie.spec
-    Inv-loop
-    μ-loop
-    loop-holds
-    slice-write-target
-    add-i
-    loop-less
-    loop-again
-    same-length
-    returns)
+    (tie.spec Inv-loop μ-loop (λ c. search needs) (λ c. search needs) (λ c. search needs) loop-less loop-again (λ c. search needs)
+    (λ c. search needs))

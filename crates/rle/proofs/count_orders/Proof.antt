@@ -3,7 +3,7 @@ use native.Mathlib.Omega.{arith}
 use borrow.Author.Needs.{needs}
 use Rattle.picture.proofs.Sizes.{matched, sized, few}
 use Rattle.rle.proofs.Calls.{good}
-use Rattle.rle.proofs.Counting.{counts-rejected, counts-walked}
+use Rattle.rle.proofs.Counting.{counts-refused, counts-walked}
 use Rattle.rle.proofs.count_orders.Statement.{statement}
 use Rattle.rle.proofs.count_orders.Tie as tie
 
@@ -30,7 +30,7 @@ returns : tie.Need-returns
 returns c =
     let k = c .before .before .before .before in
     let a = k .before .before .args in
-    counts-rejected (a .src .now) (a .bpp) (a .width) (a .height) (c .not-decoded .ensures) (matched (c .before .before .size .given .1) (k .picture-size .ensures))
+    counts-refused (a .src .now) (a .bpp) (a .width) (a .height) (c .not-decoded .ensures) (matched (c .before .before .size .given .1) (k .picture-size .ensures))
 
 returns-2 : tie.Need-returns-2
 returns-2 c =

@@ -3,7 +3,7 @@ use mathlib.Core.Path.{refl}
 use native.Mathlib.Omega.{arith}
 use borrow.Author.Needs.{needs}
 use Rattle.picture.proofs.Sizes.{matched, sized, few}
-use Rattle.rle.proofs.Calls.{reports-rejected, reports-short, good, frame-good, reports-decoded}
+use Rattle.rle.proofs.Calls.{reports-refused, reports-short, good, frame-good, reports-decoded}
 use Rattle.rle.proofs.decompress.Statement.{statement}
 use Rattle.rle.proofs.decompress.Tie as tie
 
@@ -44,7 +44,7 @@ returns-2 c =
     let k = c .before .before in
     let p = k .before .before in
     let a = p .before .before .before .args in
-    reports-rejected (a .src .now) (a .dst .now) (a .bpp) (a .width) (a .height) (c .not-decoded .ensures) (matched (k .size .given .1) (p .picture-size .ensures))
+    reports-refused (a .src .now) (a .dst .now) (a .bpp) (a .width) (a .height) (c .not-decoded .ensures) (matched (k .size .given .1) (p .picture-size .ensures))
 
 returns-3 : tie.Need-returns-3
 returns-3 c =

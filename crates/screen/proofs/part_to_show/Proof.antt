@@ -14,28 +14,10 @@ use Rattle.screen.proofs.part_to_show.Tie as tie
 good : (c : tie.After-bytes-per-pixel) → Sized (c .before .before .before .before .before .before .before .before .args .bpp) (c .before .before .before .before .before .before .before .before .args .width) (c .before .before .before .before .before .before .before .before .args .height) (c .before .before .before .before .before .size .given .0 .0)
 good c = sized _ _ _ _ (rw (c .before .before .before .before .before .size .given .1) at (c .before .before .before .before .before .before .before .picture-size .ensures))
 
-picture-size-requires : tie.Need-picture-size-requires
-picture-size-requires c κs = search needs
-
-enum-told : tie.Need-enum-told
-enum-told c = search needs
-
-nothing-requires : tie.Need-nothing-requires
-nothing-requires c κs = search needs
-
-enum-known-size : tie.Need-enum-known-size
-enum-known-size c = search needs
-
-nothing-requires-2 : tie.Need-nothing-requires-2
-nothing-requires-2 c κs = search needs
-
 returns : tie.Need-returns
 unfolding partToShow partIn hasSpace
 returns c =
     rw (c .nothing2 .ensures, ← c .before .before .before .before .before .picture-size .ensures, c .before .before .before .size .given .1) (simp (lt-leb _ _ (c .before .if1 .taken)))
-
-nothing-requires-3 : tie.Need-nothing-requires-3
-nothing-requires-3 c κs = search needs
 
 returns-2 : tie.Need-returns-2
 unfolding partToShow partIn hasSpace
@@ -43,23 +25,14 @@ returns-2 c =
     rw (c .nothing3 .ensures, ← c .before .before .before .before .before .before .picture-size .ensures, c .before .before .before .before .size .given .1)
     (simp (le-leb _ _ (c .before .before .if1 .left), lt-leb _ _ (c .before .if2 .taken)))
 
-nothing-requires-4 : tie.Need-nothing-requires-4
-nothing-requires-4 c κs = search needs
-
 returns-3 : tie.Need-returns-3
 unfolding partToShow partIn hasSpace
 returns-3 c =
     rw (c .nothing4 .ensures, ← c .before .before .before .before .before .before .before .picture-size .ensures, c .before .before .before .before .before .size .given .1)
     (simp (le-leb _ _ (c .before .before .before .if1 .left), le-leb _ _ (c .before .before .if2 .left), le-ltb _ _ (c .before .if3 .taken)))
 
-bytes-per-pixel-requires : tie.Need-bytes-per-pixel-requires
-bytes-per-pixel-requires c κs = search needs
-
 mul-row : tie.Need-mul-row
 mul-row c = omega (arith, row-small (good c) _ (c .bytes-per-pixel .ensures))
-
-add-t13 : tie.Need-add-t13
-add-t13 c = search needs
 
 mul-t14 : tie.Need-mul-t14
 mul-t14 c =
@@ -82,21 +55,6 @@ returns-5 c =
 pub part-to-show-spec : {M : Type 1} → statement M
 part-to-show-spec =
     tie.close
-    (tie.spec
-    picture-size-requires
-    enum-told
-    nothing-requires
-    enum-known-size
-    nothing-requires-2
-    returns
-    nothing-requires-3
-    returns-2
-    nothing-requires-4
-    returns-3
-    bytes-per-pixel-requires
-    mul-row
-    add-t13
-    mul-t14
-    mul-t15
-    returns-4
-    returns-5)
+    (tie.spec (λ c κs. search needs) (λ c. search needs) (λ c κs. search needs) (λ c. search needs) (λ c κs. search needs) returns
+    (λ c κs. search needs) returns-2 (λ c κs. search needs) returns-3 (λ c κs. search needs) mul-row (λ c. search needs) mul-t14
+    mul-t15 returns-4 returns-5)

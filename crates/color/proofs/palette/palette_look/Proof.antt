@@ -1,9 +1,12 @@
 -- `palette_look` meets its contract. The invariant: no entry that was passed is the triple. Assumes nothing.
 use borrow.Author.Needs.{needs}
 use Prim.Native.Nat.{ℕ, _≤_, _<_, _-_}
-use mathlib.Core.Path.{_≡_, _∙_, sym, refl}
+use mathlib.Core.Path.{_≡_, _∙_, sym}
 use native.Mathlib.Omega.{arith}
 use borrow.Author.Count.{below-more}
+use Rattle.base.proofs.Tests.{apart}
+use Rattle.picture.specs.Pixels.{pixelAt}
+use Rattle.picture.proofs.Pixels.{length-first-pixel}
 use Rattle.color.specs.Colors.{entry}
 use Rattle.color.proofs.Triples.{same-equal, equal-same}
 use Rattle.color.proofs.palette.palette_look.Statement.{statement}
@@ -21,37 +24,24 @@ returns c = λ i m. omega (arith, m .long, c .if1 .taken)
 loop-holds : tie.Need-loop-holds Inv-loop μ-loop
 loop-holds c = (omega arith, λ k h e. omega arith)
 
-entry-at-requires : tie.Need-entry-at-requires Inv-loop μ-loop
-entry-at-requires c κs = search needs
-
-same-triple-requires : tie.Need-same-triple-requires Inv-loop μ-loop
-same-triple-requires c κs = search needs
-
 returns-2 : tie.Need-returns-2 Inv-loop μ-loop
-unfolding entry
+unfolding entry pixelAt
 returns-2 c =
-    let h = c .before .before .before .before in
-    let e = c .before .before .entry-at .ensures in
+    let e = c .before .before .pixel-at .ensures in
     record {
       long = omega arith;
       index = omega arith;
-      equal = sym e ∙ same-equal _ _ (rw e refl) (search needs) (sym (c .before .same-triple .ensures) ∙ c .if2 .taken);
+      equal = sym e ∙ same-equal _ _ (rw e (length-first-pixel 3 _)) (search needs) (sym (c .before .same-triple .ensures) ∙ c .if2 .taken);
     }
 
-add-i : tie.Need-add-i Inv-loop μ-loop
-add-i c = omega arith
-
-loop-less : tie.Need-loop-less Inv-loop μ-loop
-loop-less c = omega arith
-
 loop-again : tie.Need-loop-again Inv-loop μ-loop
+unfolding entry
 loop-again c = (
   omega arith,
   below-more _ _ (c .before .before .before .before .loop .inv .1)
       (λ e.
-      let same = equal-same _ _ (c .before .before .entry-at .ensures ∙ e) in
-      let z : _≡_ {A = ℕ} 0 1 = cc (same, c .before .same-triple .ensures, c .if2 .left) in
-      omega arith),
+      let same = equal-same _ _ (c .before .before .pixel-at .ensures ∙ e) in
+      apart (cc (same, c .before .same-triple .ensures, c .if2 .left))),
 )
 
 returns-3 : tie.Need-returns-3 Inv-loop μ-loop
@@ -60,15 +50,5 @@ returns-3 c = λ i m. c .before .loop .inv .1 i (omega (arith, m .index)) (m .eq
 pub palette-look-spec : {M : Type 1} → statement M
 palette-look-spec =
     tie.close
-    (tie.spec
-    Inv-loop
-    μ-loop
-    returns
-    loop-holds
-    entry-at-requires
-    same-triple-requires
-    returns-2
-    add-i
-    loop-less
-    loop-again
-    returns-3)
+    (tie.spec Inv-loop μ-loop returns loop-holds (λ c κs. search needs) (λ c κs. search needs) returns-2 (λ c. omega arith) (λ c. omega arith)
+    loop-again returns-3)

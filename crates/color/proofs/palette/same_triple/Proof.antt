@@ -10,31 +10,13 @@ use Rattle.color.proofs.palette.same_triple.Tie as tie
 last-decides : (x y b : Bool) → x ≡ true → y ≡ true → b ≡ both x (both y b)
 last-decides x y b p q = rw (p, q)
 
-array-read-if1 : tie.Need-array-read-if1
-array-read-if1 c = search needs
-
-array-read-if1-2 : tie.Need-array-read-if1-2
-array-read-if1-2 c = search needs
-
 returns : tie.Need-returns
 unfolding sameTriple
 returns c = simp (ne-eqb _ _ (c .if1 .taken))
 
-array-read-if2 : tie.Need-array-read-if2
-array-read-if2 c = search needs
-
-array-read-if2-2 : tie.Need-array-read-if2-2
-array-read-if2-2 c = search needs
-
 returns-2 : tie.Need-returns-2
 unfolding sameTriple
 returns-2 c = simp (eq-eqb _ _ (c .before .if1 .left), ne-eqb _ _ (c .if2 .taken))
-
-array-read-result : tie.Need-array-read-result
-array-read-result c = search needs
-
-array-read-result-2 : tie.Need-array-read-result-2
-array-read-result-2 c = search needs
 
 returns-3 : tie.Need-returns-3
 unfolding sameTriple
@@ -43,13 +25,5 @@ returns-3 c = last-decides _ _ _ (eq-eqb _ _ (c .before .if1 .left)) (eq-eqb _ _
 pub same-triple-spec : {M : Type 1} → statement M
 same-triple-spec =
     tie.close
-    (tie.spec
-    array-read-if1
-    array-read-if1-2
-    returns
-    array-read-if2
-    array-read-if2-2
-    returns-2
-    array-read-result
-    array-read-result-2
-    returns-3)
+    (tie.spec (λ c. search needs) (λ c. search needs) returns (λ c. search needs) (λ c. search needs) returns-2 (λ c. search needs)
+    (λ c. search needs) returns-3)

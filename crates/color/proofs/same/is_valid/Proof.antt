@@ -1,25 +1,15 @@
 -- `is_valid` meets its contract: each test is one of the definition's. Assumes nothing.
 use borrow.Author.Needs.{needs}
-use borrow.Author.Tests.{ne-eqb, le-leb, lt-leb}
+use borrow.Author.Tests.{le-leb, lt-leb}
 use native.Mathlib.Omega.{arith}
-use Rattle.color.specs.Colors.{paletteFits}
 use Rattle.color.specs.SamePicture.{valid}
 use Rattle.picture.specs.Sizes.{hasSpace}
 use Rattle.picture.proofs.Sizes.{sized, few}
 use Rattle.color.proofs.same.is_valid.Statement.{statement}
 use Rattle.color.proofs.same.is_valid.Tie as tie
 
-picture-size-requires : tie.Need-picture-size-requires
-picture-size-requires c κs = search needs
-
-enum-told : tie.Need-enum-told
-enum-told c = search needs
-
-enum-known-size : tie.Need-enum-known-size
-enum-known-size c = search needs
-
 returns : tie.Need-returns
-unfolding valid hasSpace paletteFits
+unfolding valid hasSpace
 returns c =
     rw (← c .before .before .before .before .picture-size .ensures, c .before .before .size .given .1) (simp (lt-leb _ _ (c .if1 .taken)))
 
@@ -29,37 +19,22 @@ mul-if2 c =
     omega (arith, few (s .width) (s .height))
 
 returns-2 : tie.Need-returns-2
-unfolding valid hasSpace paletteFits
+unfolding valid hasSpace
 returns-2 c =
     rw (← c .before .before .before .before .before .before .before .picture-size .ensures, c .before .before .before .before .before .size .given .1)
     (simp (le-leb _ _ (c .before .before .before .if1 .left), lt-leb _ _ (c .if2 .taken)))
 
 returns-3 : tie.Need-returns-3
-unfolding valid hasSpace paletteFits
-returns-3 c =
-    rw (← c .before .before .before .before .before .before .before .before .before .picture-size .ensures, c .before .before .before .before .before .before .before .size .given .1)
-    (simp (le-leb _ _ (c .before .before .before .before .before .if1 .left), le-leb _ _ (c .before .before .if2 .left), ne-eqb _ _ (c .if3 .taken)))
+unfolding valid hasSpace
+returns-3 c = rw (← c .before .before .picture-size .ensures, c .enum-told .given .1)
 
 returns-4 : tie.Need-returns-4
-unfolding valid hasSpace paletteFits
-returns-4 c = rw (← c .before .before .picture-size .ensures, c .enum-told .given .1)
-
-returns-5 : tie.Need-returns-5
-unfolding valid hasSpace paletteFits
-returns-5 c =
-    rw (← c .before .before .before .before .before .before .before .before .before .picture-size .ensures, c .before .before .before .before .before .before .before .size .given .1)
-    (simp (le-leb _ _ (c .before .before .before .before .before .if1 .left), le-leb _ _ (c .before .before .if2 .left), c .if3 .left))
+unfolding valid hasSpace
+returns-4 c =
+    rw (← c .before .before .before .before .before .before .before .before .picture-size .ensures, c .before .before .before .before .before .before .size .given .1, c .palette-fits .ensures)
+    (simp (le-leb _ _ (c .before .before .before .before .if1 .left), le-leb _ _ (c .before .if2 .left)))
 
 pub is-valid-spec : {M : Type 1} → statement M
 is-valid-spec =
     tie.close
-    (tie.spec
-    picture-size-requires
-    enum-told
-    enum-known-size
-    returns
-    mul-if2
-    returns-2
-    returns-3
-    returns-4
-    returns-5)
+    (tie.spec (λ c κs. search needs) (λ c. search needs) (λ c. search needs) returns mul-if2 returns-2 (λ c κs. search needs) returns-3 returns-4)

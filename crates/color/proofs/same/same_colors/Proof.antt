@@ -29,21 +29,12 @@ color-at-requires-2 : tie.Need-color-at-requires-2 Inv-loop μ-loop
 color-at-requires-2 c κs =
     fewer (c .before .before .before .loop .k + 1) (omega arith) (c .before .before .before .before .before .before .before .pre .1)
 
-same-triple-requires : tie.Need-same-triple-requires Inv-loop μ-loop
-same-triple-requires c κs = search needs
-
 returns : tie.Need-returns Inv-loop μ-loop
 unfolding colorAt
 returns c =
     let x = c .before .before .before .before .before .before .before .before .before .before .args in
     pixel-differs (x .palette .now) (pictureOf (x .a .now) (x .p)) (pictureOf (x .b .now) (x .q)) (c .before .before .before .before .before .before .loop .k) (c .before .before .before .color-at .ensures)
     (c .before .before .color-at2 .ensures) (c .before .same-triple .ensures) (x .p .pixels) (omega arith) (not-true _ (c .if2 .taken))
-
-add-k : tie.Need-add-k Inv-loop μ-loop
-add-k c = omega arith
-
-loop-less : tie.Need-loop-less Inv-loop μ-loop
-loop-less c = omega arith
 
 loop-again : tie.Need-loop-again Inv-loop μ-loop
 unfolding colorAt
@@ -61,15 +52,5 @@ returns-2 c =
 pub same-colors-spec : {M : Type 1} → statement M
 same-colors-spec =
     tie.close
-    (tie.spec
-    Inv-loop
-    μ-loop
-    loop-holds
-    color-at-requires
-    color-at-requires-2
-    same-triple-requires
-    returns
-    add-k
-    loop-less
-    loop-again
-    returns-2)
+    (tie.spec Inv-loop μ-loop loop-holds color-at-requires color-at-requires-2 (λ c κs. search needs) returns (λ c. omega arith)
+    (λ c. omega arith) loop-again returns-2)

@@ -7,15 +7,9 @@ use Rattle.color.proofs.Agreeing.{valid-expandable}
 use Rattle.color.proofs.same.same_picture.Statement.{statement}
 use Rattle.color.proofs.same.same_picture.Tie as tie
 
-is-valid-requires : tie.Need-is-valid-requires
-is-valid-requires c κs = search needs
-
 returns : tie.Need-returns
 unfolding samePicture
 returns c = simp (sym (c .before .is-valid .ensures) ∙ not-true _ (c .if1 .taken))
-
-is-valid-requires-2 : tie.Need-is-valid-requires-2
-is-valid-requires-2 c κs = search needs
 
 returns-2 : tie.Need-returns-2
 unfolding samePicture
@@ -50,13 +44,5 @@ returns-6 c =
 pub same-picture-spec : {M : Type 1} → statement M
 same-picture-spec =
     tie.close
-    (tie.spec
-    is-valid-requires
-    returns
-    is-valid-requires-2
-    returns-2
-    returns-3
-    returns-4
-    returns-5
-    same-colors-requires
+    (tie.spec (λ c κs. search needs) returns (λ c κs. search needs) returns-2 returns-3 returns-4 returns-5 same-colors-requires
     returns-6)

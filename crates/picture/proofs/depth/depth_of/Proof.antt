@@ -6,22 +6,15 @@ use borrow.Author.Needs.{needs}
 use Rattle.picture.proofs.depth.depth_of.Statement.{statement}
 use Rattle.picture.proofs.depth.depth_of.Tie as tie
 
-depth-index-requires : tie.Need-depth-index-requires
-depth-index-requires c κs = search needs
-
 returns : tie.Need-returns
 unfolding noDepth
 returns c = no-depth _ _ (c .before .depth-index .ensures) (c .if1 .taken)
-
-mul-result : tie.Need-mul-result
-mul-result c = search needs
-
-array-copy-out-result : tie.Need-array-copy-out-result
-array-copy-out-result c = search needs
 
 returns-2 : tie.Need-returns-2
 unfolding depths code-row
 returns-2 c = rows-agree _ _ _ (c .before .before .depth-index .ensures) (omega (arith, c .before .before .depth-index .ensures, c .before .if1 .left))
 
 pub depth-of-spec : {M : Type 1} → statement M
-depth-of-spec = tie.close (tie.spec depth-index-requires returns mul-result array-copy-out-result returns-2)
+depth-of-spec =
+    tie.close
+    (tie.spec (λ c κs. search needs) returns (λ c. search needs) (λ c. search needs) returns-2)

@@ -9,7 +9,7 @@ returns : tie.Need-returns
 unfolding lengths
 returns c =
     let s = c .before .before in
-    rw (c .widen .ensures, s .pre .0, getD-tabulate 0 lengthNumber 256 _ (s .pre .1))
+    rw (c .widen .ensures .0, s .pre .0, getD-tabulate 0 lengthNumber 256 _ (s .pre .1))
 
 pub own-length-spec : {M : Type 1} → statement M
 own-length-spec = tie.close (tie.spec (λ c. search needs) (λ c κs. search needs) returns)

@@ -3,7 +3,7 @@ use Prim.Native.Nat.{ℕ, _≤_}
 use native.Mathlib.Omega.{arith}
 use lib.Dec.{eqb}
 use Rattle.rle.specs.Planning.{imageKind}
-use Rattle.picture.proofs.Tests.{by-test}
+use Rattle.base.proofs.Tests.{by-test}
 use Rattle.rle.proofs.Orders.{fits, fits-with, executes-finished, image-leaves, image-inks, image-paintable}
 use borrow.Author.Needs.{needs}
 use Rattle.rle.proofs.image.fgbg_image.Statement.{statement}

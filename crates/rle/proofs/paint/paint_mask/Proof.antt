@@ -6,7 +6,7 @@ use mathlib.Core.Logic.{⊎-elim}
 use lib.Dec.{eqb}
 use lib.ListN.{length}
 use borrow.Author.Tests.{eq-eqb, ne-eqb}
-use Rattle.picture.specs.Pixels.{pick}
+use Rattle.base.specs.Picks.{pick}
 use native.Mathlib.Omega.{arith}
 use Rattle.rle.specs.Painting.{PaintedOne, Painted, inkOf}
 use Rattle.definition.specs.Decode.{maskInk}

@@ -3,7 +3,7 @@ use mathlib.Core.Path.{sym, _∙_}
 use lib.Dec.{leb}
 use borrow.Author.Tests.{leb-false, le-leb}
 use Rattle.definition.specs.Plan.{behind, masksFor, imageCounts}
-use Rattle.definition.proofs.Headers.{both}
+use Rattle.base.proofs.Tests.{both-true}
 use borrow.Author.Needs.{needs}
 use Rattle.rle.proofs.plan.image_behind.Statement.{statement}
 use Rattle.rle.proofs.plan.image_behind.Tie as tie
@@ -12,7 +12,7 @@ returns : tie.Need-returns
 unfolding behind imageCounts masksFor
 returns c =
     let s = c .before .before .before in
-    let t = both (leb (s .args .n) (s .args .room)) _ (sym (c .before .before .goes-through .ensures) ∙ c .before .if1 .taken) in
+    let t = both-true (leb (s .args .n) (s .args .room)) _ (sym (c .before .before .goes-through .ensures) ∙ c .before .if1 .taken) in
     rw (t .0, t .1) (c .complete .ensures)
 
 cut-image-requires : tie.Need-cut-image-requires

@@ -1,7 +1,6 @@
 -- `end_first_row` meets its contract: the row stays, ends, or has ended before. Assumes nothing.
-use mathlib.Core.Path.{_≡_, sym}
-use Prim.Native.Nat.{ℕ}
-use native.Mathlib.Omega.{arith}
+use mathlib.Core.Path.{sym}
+use Rattle.base.proofs.Tests.{apart}
 use Rattle.rle.proofs.FirstRow.{row-stays, row-ends}
 use Rattle.rle.proofs.state.end_first_row.Statement.{statement}
 use Rattle.rle.proofs.state.end_first_row.Tie as tie
@@ -19,7 +18,7 @@ returns-2 c =
 returns-3 : tie.Need-returns-3
 returns-3 c =
     let s = c .before in
-    sym (row-stays (s .args .f) (s .args .s) (λ e. let off = c .if1 .left in let z : _≡_ {A = ℕ} 0 1 = cc in absurd (omega arith)))
+    sym (row-stays (s .args .f) (s .args .s) (λ e. let off = c .if1 .left in apart cc))
 
 pub end-first-row-spec : {M : Type 1} → statement M
 end-first-row-spec = tie.close (tie.spec returns returns-2 returns-3)

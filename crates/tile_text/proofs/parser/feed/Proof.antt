@@ -25,8 +25,8 @@ loop-again c =
     let l = c .before .before .before .before .before .before .loop in
     let h = c .before .before .before .before .before .loop-test .taken in (
       omega arith,
-      rw (fed-more _ _ (l .i) h, ← l .inv .1, ← c .before .before .before .wide .ensures) (c .step .ensures),
-      rw (into-more _ _ _ (l .i) h, ← l .inv .1, ← l .inv .2, ← c .before .before .before .wide .ensures) (c .before .store .ensures),
+      rw (fed-more _ _ (l .i) h, ← l .inv .1, ← c .before .before .before .widen .ensures .0) (c .step .ensures),
+      rw (into-more _ _ _ (l .i) h, ← l .inv .1, ← l .inv .2, ← c .before .before .before .widen .ensures .0) (c .before .store .ensures),
     )
 
 returns : tie.Need-returns Inv-loop μ-loop

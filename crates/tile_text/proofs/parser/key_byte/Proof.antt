@@ -14,7 +14,7 @@ returns-2 c = sym (past-seven _ _ (c .if2 .taken))
 
 returns-3 : tie.Need-returns-3
 unfolding ascii
-returns-3 c = c .wide .ensures ∙ key-in-table _ _ (c .before .before .if1 .left) (c .before .if2 .left)
+returns-3 c = c .widen .ensures .0 ∙ key-in-table _ _ (c .before .before .if1 .left) (c .before .if2 .left)
 
 pub key-byte-spec : {M : Type 1} → statement M
 key-byte-spec =
