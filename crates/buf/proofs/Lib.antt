@@ -1,4 +1,3 @@
-pub mod Answers
 pub mod Reading
 pub mod Contracts
 pub mod From

@@ -10,7 +10,7 @@ use Rattle.base.specs.Picks.{pick}
 use Rattle.picture.specs.Pixels.{Pixel, pixelAt}
 use Rattle.picture.specs.Sizes.{Refusal, refusal, depthIndex}
 use Rattle.picture.specs.Outcomes.{refusalOf}
-use Rattle.color.specs.declared.pixel.Expansion.{Expansion}
+use Rattle.color.specs.declared.pixel.Expansion.{Expansion as CodeExpansion}
 use Rattle.color.specs.declared.pixel.Expansion.the-variants.{Done, Refused}
 use Rattle.color.specs.declared.pixel.Expanded.{Expanded}
 
@@ -45,26 +45,26 @@ unfoldable pub paletteFits : ℕ → List ℕ → Bool
 paletteFits bpp palette = pick (eqb bpp 8) (leb 768 (length palette)) true
 
 -- what expansion gives: a refusal (number 0: none), and the triple (zeros where refused)
-pub record Answer : Type 0 where
+pub record Expansion : Type 0 where
   pub refusal : Refusal
   pub triple : Triple
 
-abbrev pub refusing : Refusal → Answer
+abbrev pub refusing : Refusal → Expansion
 refusing r = record { refusal = r; triple = 0 ∷ 0 ∷ 0 ∷ [] }
 
-abbrev pub giving : Triple → Answer
+abbrev pub giving : Triple → Expansion
 giving t = record { refusal = refusal 0 0 0; triple = t }
 
 -- the definition: refusal 1, then 4 for a short palette, then the color
-unfoldable pub expanded : List ℕ → ℕ → Pixel → Answer
+unfoldable pub expanded : List ℕ → ℕ → Pixel → Expansion
 expanded palette bpp p =
     pick (leb 4 (depthIndex bpp)) (refusing (refusal 1 bpp 0))
     (pick (paletteFits bpp palette) (giving (colorOf palette bpp p)) (refusing (refusal 4 768 (length palette))))
 
 -- number and values of the code's refusal
-abbrev pub refusalIn : Expansion → Refusal
+abbrev pub refusalIn : CodeExpansion → Refusal
 refusalIn Done = refusal 0 0 0
 refusalIn (Refused e) = refusalOf e
 
-abbrev pub answerIn : Expanded → Answer
-answerIn r = record { refusal = refusalIn (r .answer); triple = r .bgr }
+abbrev pub expansionIn : Expanded → Expansion
+expansionIn r = record { refusal = refusalIn (r .outcome); triple = r .bgr }

@@ -3,7 +3,7 @@ ghost use mathlib.Core.Path.{_≡_};
 ghost use mathlib.Core.Bool.{true};
 ghost use Prim.Native.Nat.{_<_};
 ghost use Rattle.picture.specs.Outcomes.{refusalOf};
-ghost use Rattle.color.specs.Colors.{channel, expandWord, colorOf, paletteFits, expanded, answerIn, giving, refusing};
+ghost use Rattle.color.specs.Colors.{channel, expandWord, colorOf, paletteFits, expanded, expansionIn, giving, refusing};
 ghost use Rattle.color.specs.Contracts.{ChannelValues};
 use crate::palette::palette_fits;
 use crate::read::pixel_at;
@@ -17,7 +17,7 @@ pub enum Expansion {
 
 // The triple is blue, green, red; zeros where refused. An enum can't hold an array, so it stands beside the enum.
 pub struct Expanded {
-    pub answer: Expansion,
+    pub outcome: Expansion,
     pub bgr: [u8; 3],
 }
 
@@ -59,19 +59,19 @@ pub(crate) fn color_of(pixel: [u8; 3], bpp: usize, palette: &[u8]) -> [u8; 3]
 }
 
 fn done(bgr: [u8; 3]) -> Expanded
-    ensures { λ r. ⌜ answerIn r ≡ giving bgr ⌝ }
+    ensures { λ r. ⌜ expansionIn r ≡ giving bgr ⌝ }
 {
     Expanded {
-        answer: Expansion::Done,
+        outcome: Expansion::Done,
         bgr,
     }
 }
 
 fn refused(e: RleError) -> Expanded
-    ensures { λ r. ⌜ answerIn r ≡ refusing (refusalOf e) ⌝ }
+    ensures { λ r. ⌜ expansionIn r ≡ refusing (refusalOf e) ⌝ }
 {
     Expanded {
-        answer: Expansion::Refused(e),
+        outcome: Expansion::Refused(e),
         bgr: [0, 0, 0],
     }
 }
@@ -79,7 +79,7 @@ fn refused(e: RleError) -> Expanded
 // The color of a pixel of so many bits, or the refusal of the depth or of a short palette. The depths are literals in the calls of
 // `color_of`, which makes them faster.
 pub fn expand(pixel: [u8; 3], bpp: usize, palette: &[u8]) -> Expanded
-    ensures { λ r. ⌜ answerIn r ≡ expanded (now (palette .entry)) bpp pixel ⌝ }
+    ensures { λ r. ⌜ expansionIn r ≡ expanded (now (palette .entry)) bpp pixel ⌝ }
 {
     match bpp {
         8 => {

@@ -8,7 +8,7 @@ use Rattle.base.specs.Picks.{pick}
 use Rattle.picture.specs.Sizes.{Refusal}
 use Rattle.color.specs.declared.palette.Look.{Look}
 use Rattle.color.specs.declared.palette.Look.the-variants.{At, Nothing}
-use Rattle.color.specs.Colors.{Triple, Answer}
+use Rattle.color.specs.Colors.{Triple, Expansion}
 use Rattle.color.specs.Look.{Looked}
 use Rattle.screen.specs.Rows.{RowPart}
 
@@ -16,9 +16,9 @@ use Rattle.screen.specs.Rows.{RowPart}
 unfoldable pub numbersOf : Refusal → Triple → List ℕ
 numbersOf r t = r .number ∷ r .first ∷ r .second ∷ getD t 0 0 ∷ getD t 1 0 ∷ getD t 2 0 ∷ 0 ∷ 0 ∷ []
 
-unfoldable pub answerNumbers : Answer → List ℕ
+unfoldable pub expansionNumbers : Expansion → List ℕ
 unfolding numbersOf
-answerNumbers a = numbersOf (a .refusal) (a .triple)
+expansionNumbers e = numbersOf (e .refusal) (e .triple)
 
 -- 256: nothing
 abbrev pub lookOf : ℕ → Look

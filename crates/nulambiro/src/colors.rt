@@ -4,19 +4,19 @@ ghost use mathlib.Core.List.{[], _∷_};
 ghost use Rattle.color.specs.Colors.{expanded, refusalIn};
 ghost use Rattle.color.specs.SamePicture.{samePicture, picture};
 ghost use Rattle.screen.specs.Rows.{partToShow};
-ghost use Rattle.nulambiro.specs.ColorNumbers.{numbersOf, answerNumbers, LookedAt, yesNo, partNumbers};
+ghost use Rattle.nulambiro.specs.ColorNumbers.{numbersOf, expansionNumbers, LookedAt, yesNo, partNumbers};
 use color::Expansion;
 use color::Look;
 use color::Shape;
 use picture::Outcome;
 
-pub(crate) fn expansion_numbers(answer: Expansion, bgr: [u8; 3]) -> [u64; 8]
-    ensures { λ r. ⌜ r ≡ numbersOf (refusalIn answer) bgr ⌝ }
+pub(crate) fn expansion_numbers(outcome: Expansion, bgr: [u8; 3]) -> [u64; 8]
+    ensures { λ r. ⌜ r ≡ numbersOf (refusalIn outcome) bgr ⌝ }
 {
     let b = bgr[0] as u64;
     let g = bgr[1] as u64;
     let r = bgr[2] as u64;
-    match answer {
+    match outcome {
         Expansion::Done => [0, 0, 0, b, g, r, 0, 0],
         Expansion::Refused(e) => {
             let n = picture::numbers_of(Outcome::Err(e));
@@ -44,12 +44,12 @@ pub extern "C" fn nulambiro_expand(
     palette: &[u8],
     report: &mut [u64; 8],
 )
-    ensures { λ _. ⌜ now (report .exit) ≡ answerNumbers (expanded (now (palette .entry)) bpp (low ∷ middle ∷ high ∷ [])) ⌝ }
+    ensures { λ _. ⌜ now (report .exit) ≡ expansionNumbers (expanded (now (palette .entry)) bpp (low ∷ middle ∷ high ∷ [])) ⌝ }
 {
     let e = color::expand([low, middle, high], bpp, palette);
-    let answer = e.answer;
+    let outcome = e.outcome;
     let bgr = e.bgr;
-    let t = expansion_numbers(answer, bgr);
+    let t = expansion_numbers(outcome, bgr);
     *report = t;
 }
 

@@ -3,14 +3,9 @@ use borrow.Author.Needs.{needs}
 use Rattle.one_depth.proofs.decompress_8_bpp.Statement.{statement}
 use Rattle.one_depth.proofs.decompress_8_bpp.Tie as tie
 
-decompress-requires : tie.Need-decompress-requires
-decompress-requires c κs = search needs
-
-same-length : tie.Need-same-length
-same-length c = search needs
-
 returns : tie.Need-returns
 returns c = c .before .before .decompress .ensures
 
 pub decompress-8-bpp-spec : {M : Type 1} → statement M
-decompress-8-bpp-spec = tie.close (tie.spec decompress-requires same-length returns)
+decompress-8-bpp-spec = tie.close
+    (tie.spec (λ c κs. search needs) (λ c. search needs) returns)

@@ -4,18 +4,6 @@ use borrow.Author.Needs.{needs}
 use Rattle.two_targets.proofs.decompress_twice.Statement.{statement}
 use Rattle.two_targets.proofs.decompress_twice.Tie as tie
 
-decompress-requires : tie.Need-decompress-requires
-decompress-requires c κs = search needs
-
-decompress-requires-2 : tie.Need-decompress-requires-2
-decompress-requires-2 c κs = search needs
-
-same-length : tie.Need-same-length
-same-length c = search needs
-
-same-length-2 : tie.Need-same-length-2
-same-length-2 c = search needs
-
 returns : tie.Need-returns
 returns c =
     let a = c .before .before .before .before .before .before .before .before .before .before .before .args in
@@ -26,4 +14,4 @@ returns c =
 pub decompress-twice-spec : {M : Type 1} → statement M
 decompress-twice-spec =
     tie.close
-    (tie.spec decompress-requires decompress-requires-2 same-length same-length-2 returns)
+    (tie.spec (λ c κs. search needs) (λ c κs. search needs) (λ c. search needs) (λ c. search needs) returns)

@@ -5,15 +5,6 @@ use borrow.Author.Tests.{lt-ltb}
 use Rattle.nulambiro.proofs.colors.nulambiro_palette_look.Statement.{statement}
 use Rattle.nulambiro.proofs.colors.nulambiro_palette_look.Tie as tie
 
-palette-look-requires : tie.Need-palette-look-requires
-palette-look-requires c κs = search needs
-
-enum-known-look : tie.Need-enum-known-look
-enum-known-look c = search needs
-
-enum-told : tie.Need-enum-told
-enum-told c = search needs
-
 returns : tie.Need-returns
 returns c =
     let m = rw (c .before .look .given .1) at (c .before .before .before .palette-look .ensures) in
@@ -25,4 +16,5 @@ returns-2 c =
 
 pub nulambiro-palette-look-spec : {M : Type 1} → statement M
 nulambiro-palette-look-spec =
-    tie.close (tie.spec palette-look-requires enum-known-look enum-told returns returns-2)
+    tie.close
+    (tie.spec (λ c κs. search needs) (λ c. search needs) (λ c. search needs) returns returns-2)

@@ -4,9 +4,6 @@ use Rattle.nulambiro.specs.ColorNumbers.{partNumbers}
 use Rattle.nulambiro.proofs.colors.nulambiro_row_to_show.Statement.{statement}
 use Rattle.nulambiro.proofs.colors.nulambiro_row_to_show.Tie as tie
 
-part-to-show-requires : tie.Need-part-to-show-requires
-part-to-show-requires c κs = search needs
-
 returns : tie.Need-returns
 unfolding partNumbers
 returns c = rw (← c .before .before .part-to-show .ensures, c .before .if1 .taken)
@@ -16,4 +13,5 @@ unfolding partNumbers
 returns-2 c = rw (← c .before .before .part-to-show .ensures, c .before .if1 .left)
 
 pub nulambiro-row-to-show-spec : {M : Type 1} → statement M
-nulambiro-row-to-show-spec = tie.close (tie.spec part-to-show-requires returns returns-2)
+nulambiro-row-to-show-spec = tie.close
+    (tie.spec (λ c κs. search needs) returns returns-2)

@@ -1,6 +1,6 @@
 -- `extract_run_length_mega` meets its contract: the next byte is missing, or is there. Assumes nothing.
 use native.Mathlib.Omega.{arith}
-use Rattle.buf.proofs.Answers.{u8-is, u8-few}
+use Rattle.buf.proofs.Reading.{u8-is, u8-few}
 use Rattle.rle.proofs.Lengths.{mega-short, mega-read}
 use borrow.Author.Needs.{needs}
 use Rattle.rle.proofs.head.extract_run_length_mega.Statement.{statement}

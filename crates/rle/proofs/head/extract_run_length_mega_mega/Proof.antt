@@ -1,7 +1,7 @@
 -- `extract_run_length_mega_mega` meets its contract: two bytes are missing, are 0, or are the length. Assumes nothing.
 use Prim.Native.Nat.{_+_}
 use native.Mathlib.Omega.{arith}
-use Rattle.buf.proofs.Answers.{u16-is, u16-few}
+use Rattle.buf.proofs.Reading.{u16-is, u16-few}
 use Rattle.rle.proofs.Lengths.{long-short, long-zero, long-is}
 use borrow.Author.Needs.{needs}
 use Rattle.rle.proofs.head.extract_run_length_mega_mega.Statement.{statement}

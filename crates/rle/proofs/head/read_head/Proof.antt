@@ -1,6 +1,6 @@
 -- `read_head` meets its contract: the stream's end, or the header's kind and its run length or refusal. Assumes nothing.
 use native.Mathlib.Omega.{arith}
-use Rattle.buf.proofs.Answers.{u8-is, u8-few}
+use Rattle.buf.proofs.Reading.{u8-is, u8-few}
 use Rattle.rle.proofs.Heads.{head-read, head-refused}
 use borrow.Author.Needs.{needs}
 use Rattle.rle.proofs.head.read_head.Statement.{statement}
