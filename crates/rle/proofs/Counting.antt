@@ -1,5 +1,5 @@
 -- Laws of a call without a target: refused before the stream, or walked to its end. Assumes nothing.
-use mathlib.Core.Path.{_≡_, refl, ap, _∙_}
+use mathlib.Core.Path.{_≡_, ap, _∙_}
 use mathlib.Core.List.{List}
 use Prim.Native.Nat.{ℕ, _*_}
 use Rattle.picture.specs.declared.depth.Depth.{Depth as CodeDepth}

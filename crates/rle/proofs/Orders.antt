@@ -21,7 +21,7 @@ use Rattle.picture.specs.Sizes.{refusal, Frame}
 use Rattle.base.proofs.Tests.{by-test}
 use Rattle.definition.specs.Orders.{Kind, FgBgImage, SetFgBgImage, SpecialFgBg1, SpecialFgBg2, White, Black, NoOrder}
 use Rattle.definition.specs.Decode.{solid, fgInk, bgInk, insertInk, maskInk, State, state, room, orderOf}
-use Rattle.definition.specs.Plan.{refused, Counts, counts, behind, withOperands, runCounts, countsOf, leavesInsert, newForeground, foregroundBy, insertAfter, ordersAfter, imageInk, kindInk, endWith, Left, anInsert, aForeground, nothing, leaves, insertIn, foregroundIn}
+use Rattle.definition.specs.Plan.{refused, Counts, counts, behind, withOperands, runCounts, countsOf, leavesInsert, newForeground, foregroundBy, insertAfter, ordersAfter, imageInk, kindInk, Left, anInsert, aForeground, nothing, leaves, insertIn, foregroundIn}
 use Rattle.rle.specs.Planning.{countsIn, endingIn}
 use Rattle.rle.specs.Painting.{HasPlace, Paintable, Painted, ofMode, inkOf, reach}
 use Rattle.rle.specs.States.{Framed, Invariant, frameOf, stateOf, rowAbove, rowMode, rowInk, fgOf, bgOf, withFg, Fits, finishedOf}

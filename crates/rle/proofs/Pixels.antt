@@ -1,7 +1,7 @@
 -- Laws of pixels in byte lists, for every number of bytes D. Assumes nothing.
 use mathlib.Core.Path.{_≡_, refl, ap, sym, _∙_}
 use mathlib.Core.List.{List, [], _∷_, _++_, append-assoc, append-nil}
-use Prim.Native.Nat.{ℕ, zero, suc, _+_, _*_, _-_, _≤_, _<_}
+use Prim.Native.Nat.{ℕ, zero, suc, _+_, _*_, _≤_, _<_}
 use native.Mathlib.Nat.{suc-mul, zero-mul, le-refl}
 use native.Mathlib.Numerals.{add-one, add-two}
 use native.Mathlib.Decide.{decLt}

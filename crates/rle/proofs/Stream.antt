@@ -15,7 +15,7 @@ use Rattle.picture.specs.declared.outcome.RleError.{RleError}
 use Rattle.picture.specs.Sizes.{Frame}
 use Rattle.definition.specs.Orders.{Head, headOf}
 use Rattle.definition.specs.Codes.{kindOf}
-use Rattle.definition.specs.Decode.{State, ended, thenRun, orderOf, orderFrom, withLeft, endFirstRow, step, start}
+use Rattle.definition.specs.Decode.{thenRun, orderOf, orderFrom, withLeft, endFirstRow, step, start}
 use Rattle.definition.specs.Plan.{endWith}
 use Rattle.definition.proofs.Runs.{continues-start, continues-end, continues-refused, continues-on, continues-as}
 use Rattle.rle.specs.Stored.{pixelsOf}

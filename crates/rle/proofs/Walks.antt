@@ -14,9 +14,8 @@ use Rattle.rle.specs.declared.state.State.{State as CodeState}
 use Rattle.rle.specs.declared.state.Stepped.{Stepped}
 use Rattle.picture.specs.declared.outcome.RleError.{RleError}
 use Rattle.picture.specs.Sizes.{Frame}
-use Rattle.definition.specs.Orders.{Head, headOf}
 use Rattle.definition.specs.Codes.{kindOf}
-use Rattle.definition.specs.Decode.{State, ended, thenRun, step, start}
+use Rattle.definition.specs.Decode.{State, thenRun, step, start}
 use Rattle.definition.specs.Plan.{countsOf, insertAfter, ordersAfter, Progress, progressOf, planBy, planFrom, pastFirstRow, planOf, endWith, planState, planStep}
 use Rattle.definition.specs.Runs.{Continues}
 use Rattle.definition.proofs.Planned.{step-planned, progress-planned, Within, kind-within, orders-few}

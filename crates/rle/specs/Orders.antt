@@ -1,6 +1,5 @@
 -- What the orders and the loop over them promise: the definition's steps, and nothing past the painted pixels changed.
 use mathlib.Core.Path.{_≡_}
-use mathlib.Core.Bool.{Bool}
 use mathlib.Core.List.{List}
 use Prim.Native.Nat.{ℕ, _*_, _≤_, _<_}
 use lib.ListN.{length, drop}
