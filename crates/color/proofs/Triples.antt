@@ -2,11 +2,11 @@
 use mathlib.Core.Path.{_≡_, refl, sym, _∙_}
 use mathlib.Core.List.{[], _∷_}
 use mathlib.Core.Bool.{Bool, true}
-use native.Mathlib.Omega.{arith}
 use lib.Dec.{eqb}
 use lib.ListN.{length, getD}
 use borrow.Author.Tests.{eq-eqb, eqb-true}
 use Rattle.base.proofs.Tests.{both-true}
+use Rattle.picture.proofs.Pixels.{three}
 use Rattle.color.specs.Colors.{Triple}
 use Rattle.color.specs.SamePicture.{both, sameTriple}
 
@@ -15,14 +15,6 @@ all-true a b c e =
     let p = both-true a (both b c) e in
     let q = both-true b c (p .1) in
     (p .0, q .0, q .1)
-
--- an array of three
-three : (t : Triple) → length t ≡ 3 → t ≡ getD t 0 0 ∷ getD t 1 0 ∷ getD t 2 0 ∷ []
-three [] e = absurd (omega arith)
-three (x ∷ []) e = absurd (omega arith)
-three (x ∷ y ∷ []) e = absurd (omega arith)
-three (x ∷ y ∷ z ∷ []) e = refl
-three (x ∷ y ∷ z ∷ u ∷ us) e = absurd (omega arith)
 
 pub same-equal : (s t : Triple) → length s ≡ 3 → length t ≡ 3 → sameTriple s t ≡ true → s ≡ t
 unfolding sameTriple

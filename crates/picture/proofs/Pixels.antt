@@ -10,9 +10,17 @@ use lib.ListN.{length, getD, take, drop}
 use lib.Seq.{getD-drop, getD-take, length-take-le, ext-getD}
 use borrow.Author.Tests.{ltb-true, lt-ltb}
 use Rattle.base.specs.Picks.{pick}
-use Rattle.picture.specs.Pixels.{firstPixel}
+use Rattle.picture.specs.Pixels.{Pixel, firstPixel}
 
--- it sees only its own bytes
+-- an array of three
+pub three : (p : Pixel) → length p ≡ 3 → p ≡ getD p 0 0 ∷ getD p 1 0 ∷ getD p 2 0 ∷ []
+three [] e = absurd (omega arith)
+three (x ∷ []) e = absurd (omega arith)
+three (x ∷ y ∷ []) e = absurd (omega arith)
+three (x ∷ y ∷ z ∷ []) e = refl
+three (x ∷ y ∷ z ∷ u ∷ us) e = absurd (omega arith)
+
+-- a pixel sees only its own bytes
 pick-cong : (t : Bool) (x y : ℕ) → (t ≡ true → x ≡ y) → pick t x 0 ≡ pick t y 0
 pick-cong true x y h = h refl
 pick-cong false x y h = refl

@@ -9,7 +9,7 @@ use native.Mathlib.Omega.{arith}
 use lib.ListN.{length, getD, take, drop, set, length-append, length-drop, List·getD-append}
 use lib.Seq.{getD-drop, getD-take, take-at, drop-at, sets-eq, take-add, length-take-le, getD-at, drop-paste}
 use Rattle.picture.specs.Pixels.{Pixel, firstPixel, pixelAt, bytesOf}
-use Rattle.picture.proofs.Pixels.{first-pixel-cong, take-first-pixel}
+use Rattle.picture.proofs.Pixels.{three, first-pixel-cong, take-first-pixel}
 use Rattle.rle.specs.Stored.{pixelsOf, storePixel}
 
 -- ---- the first n pixels
@@ -33,34 +33,18 @@ getD-pixelsOf D (suc n) xs k z h =
 
 -- ---- a pixel is stored
 
--- an array of three
-take-1 : (p : List ℕ) → length p ≡ 3 → take 1 p ≡ getD p 0 0 ∷ []
-take-1 [] e = absurd (omega arith)
-take-1 (x ∷ xs) e = refl
-
-take-2 : (p : List ℕ) → length p ≡ 3 → take 2 p ≡ getD p 0 0 ∷ getD p 1 0 ∷ []
-take-2 [] e = absurd (omega arith)
-take-2 (x ∷ []) e = absurd (omega arith)
-take-2 (x ∷ y ∷ xs) e = refl
-
-take-3 : (p : List ℕ) → length p ≡ 3 → take 3 p ≡ getD p 0 0 ∷ getD p 1 0 ∷ getD p 2 0 ∷ []
-take-3 [] e = absurd (omega arith)
-take-3 (x ∷ []) e = absurd (omega arith)
-take-3 (x ∷ y ∷ []) e = absurd (omega arith)
-take-3 (x ∷ y ∷ z ∷ xs) e = refl
-
 module _ (xs p : List ℕ) (at D : ℕ) where
   pub store-1 : D ≡ 1 → length p ≡ 3 → at + D ≤ length xs → set xs at (getD p 0 0) ≡ storePixel D xs at p
   unfolding storePixel
-  store-1 e l h = rw (e, take-1 p l) (sets-eq (getD p 0 0 ∷ []) xs at (omega arith))
+  store-1 e l h = rw (e, ap (λ (q : Pixel). take 1 q) (three p l)) (sets-eq (getD p 0 0 ∷ []) xs at (omega arith))
 
   pub store-2 : D ≡ 2 → length p ≡ 3 → at + D ≤ length xs → set (set xs at (getD p 0 0)) (at + 1) (getD p 1 0) ≡ storePixel D xs at p
   unfolding storePixel
-  store-2 e l h = rw (e, take-2 p l, add-one at) (sets-eq (getD p 0 0 ∷ getD p 1 0 ∷ []) xs at (omega arith))
+  store-2 e l h = rw (e, ap (λ (q : Pixel). take 2 q) (three p l), add-one at) (sets-eq (getD p 0 0 ∷ getD p 1 0 ∷ []) xs at (omega arith))
 
   pub store-3 : D ≡ 3 → length p ≡ 3 → at + D ≤ length xs → set (set (set xs at (getD p 0 0)) (at + 1) (getD p 1 0)) (at + 2) (getD p 2 0) ≡ storePixel D xs at p
   unfolding storePixel
-  store-3 e l h = rw (e, take-3 p l, add-one at, add-two at) (sets-eq (getD p 0 0 ∷ getD p 1 0 ∷ getD p 2 0 ∷ []) xs at (omega arith))
+  store-3 e l h = rw (e, ap (λ (q : Pixel). take 3 q) (three p l), add-one at, add-two at) (sets-eq (getD p 0 0 ∷ getD p 1 0 ∷ getD p 2 0 ∷ []) xs at (omega arith))
 
 pub pixelAt-cong : (D k : ℕ) (xs ys : List ℕ) → 1 ≤ D → ((i : ℕ) → i < D → getD xs (k * D + i) 0 ≡ getD ys (k * D + i) 0) → pixelAt D xs k ≡ pixelAt D ys k
 unfolding pixelAt
