@@ -12,7 +12,7 @@ use Rattle.rle.specs.declared.report.Report.{Report}
 abbrev pub summaryIn : Report → Summary
 summaryIn r = summary (refusalIn (r .outcome)) (formatIn (r .outcome)) (r .pixels) (r .orders)
 
--- the report says of the result e what is so, and the target holds the painted bytes and then what it held
+-- the report is that of the result e, and the target holds the painted bytes and then what it held
 pub record Agrees (src before after : List ℕ) (total : ℕ) (r : Report) (e : Result) : Type 0 where
   pub report : summaryIn r ≡ summaryOf e
   pub target : after ≡ bytesOf (e .bytes) (e .painted) ++ drop (length (e .painted) * e .bytes) before
