@@ -3,7 +3,9 @@ pub mod Painting
 pub mod Lengths
 pub mod Numbers
 pub mod Heads
+pub mod Inks
 pub mod Orders
+pub mod Sharing
 pub mod FirstRow
 pub mod Stream
 pub mod Walks

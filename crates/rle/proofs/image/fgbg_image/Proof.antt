@@ -4,7 +4,8 @@ use native.Mathlib.Omega.{arith}
 use lib.Dec.{eqb}
 use Rattle.rle.specs.Planning.{imageKind}
 use Rattle.base.proofs.Tests.{by-test}
-use Rattle.rle.proofs.Orders.{fits, fits-with, executes-finished, image-leaves, image-inks, image-paintable}
+use Rattle.rle.proofs.Orders.{fits, fits-with, executes-finished}
+use Rattle.rle.proofs.Sharing.{image-leaves, image-inks, image-paintable}
 use borrow.Author.Needs.{needs}
 use Rattle.rle.proofs.image.fgbg_image.Statement.{statement}
 use Rattle.rle.proofs.image.fgbg_image.Tie as tie

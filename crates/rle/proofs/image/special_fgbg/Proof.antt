@@ -7,7 +7,9 @@ use Rattle.definition.specs.Plan.{countsOf}
 use Rattle.rle.specs.States.{frameOf, stateOf}
 use Rattle.rle.specs.Planning.{specialKind}
 use Rattle.rle.proofs.Painting.{painted-as}
-use Rattle.rle.proofs.Orders.{within, fits, executes-finished, paintable, row-reach, mask-inks, special-counts, special-leaves, special-few, special-ink}
+use Rattle.rle.proofs.Inks.{row-reach, mask-inks}
+use Rattle.rle.proofs.Orders.{within, fits, executes-finished, paintable}
+use Rattle.rle.proofs.Sharing.{special-counts, special-leaves, special-few, special-ink}
 use borrow.Author.Needs.{needs}
 use Rattle.rle.proofs.image.special_fgbg.Statement.{statement}
 use Rattle.rle.proofs.image.special_fgbg.Tie as tie

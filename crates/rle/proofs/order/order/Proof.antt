@@ -4,7 +4,7 @@ use Prim.Native.Nat.{ℕ}
 use Rattle.definition.specs.Orders.{rows, row}
 use Rattle.definition.specs.Codes.{kindOf, kindRow}
 use Rattle.rle.proofs.Numbers.{image-number, special-number, pixel-number}
-use Rattle.rle.proofs.Orders.{executes-kind}
+use Rattle.rle.proofs.Sharing.{executes-kind}
 use borrow.Author.Needs.{needs}
 use Rattle.rle.proofs.order.order.Statement.{statement}
 use Rattle.rle.proofs.order.order.Tie as tie

@@ -3,7 +3,8 @@ use mathlib.Core.Path.{refl}
 use native.Mathlib.Omega.{arith}
 use Rattle.definition.specs.Orders.{BgRun}
 use Rattle.definition.specs.Plan.{countsOf, kindInk, leaves, insertIn, foregroundIn}
-use Rattle.rle.proofs.Orders.{within, fits, executes-finished, paintable, row-reach, insert-inks}
+use Rattle.rle.proofs.Inks.{row-reach, insert-inks}
+use Rattle.rle.proofs.Orders.{within, fits, executes-finished, paintable}
 use borrow.Author.Needs.{needs}
 use Rattle.rle.proofs.run.bg_run.Statement.{statement}
 use Rattle.rle.proofs.run.bg_run.Tie as tie

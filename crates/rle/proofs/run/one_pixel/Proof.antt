@@ -7,7 +7,8 @@ use Rattle.rle.specs.States.{frameOf, stateOf}
 use Rattle.rle.specs.Planning.{pixelKind}
 use Rattle.rle.proofs.Painting.{painted-as, turn-pixel}
 use Rattle.rle.proofs.Numbers.{pixel-plans}
-use Rattle.rle.proofs.Orders.{within, fits, executes-finished, has-place, pixel-leaves, pixel-few, pixel-ink}
+use Rattle.rle.proofs.Orders.{within, fits, executes-finished, has-place}
+use Rattle.rle.proofs.Sharing.{pixel-leaves, pixel-few, pixel-ink}
 use borrow.Author.Needs.{needs}
 use Rattle.rle.proofs.run.one_pixel.Statement.{statement}
 use Rattle.rle.proofs.run.one_pixel.Tie as tie

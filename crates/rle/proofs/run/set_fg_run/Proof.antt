@@ -4,7 +4,8 @@ use native.Mathlib.Omega.{arith}
 use Rattle.definition.specs.Orders.{SetFgRun}
 use Rattle.definition.specs.Plan.{countsOf, kindInk, leaves, insertIn, foregroundIn}
 use Rattle.rle.proofs.Painting.{painted-as}
-use Rattle.rle.proofs.Orders.{within, fits, fits-with, executes-finished, paintable, row-reach, fg-is, new-of-depth}
+use Rattle.rle.proofs.Inks.{row-reach, fg-is, new-of-depth}
+use Rattle.rle.proofs.Orders.{within, fits, fits-with, executes-finished, paintable}
 use borrow.Author.Needs.{needs}
 use Rattle.rle.proofs.run.set_fg_run.Statement.{statement}
 use Rattle.rle.proofs.run.set_fg_run.Tie as tie
