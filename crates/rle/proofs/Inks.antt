@@ -44,12 +44,12 @@ unfolding newForeground
 new-of-depth {f = f} {p} frame of xs =
     by-test (λ (x : Pixel). OfDepth (f .bytes) x) (leb (f .bytes) (length xs)) (λ e. of-depth (f .bytes) xs (frame .low) (frame .high)) (λ e. of)
 
-pub kind-of-depth : {given : ℕ} {f : Frame} {p : Pixel} → Framed given f → OfDepth (f .bytes) p → (xs : List ℕ) (l : Left)
+pub foreground-of-depth : {given : ℕ} {f : Frame} {p : Pixel} → Framed given f → OfDepth (f .bytes) p → (xs : List ℕ) (l : Left)
     → OfDepth (f .bytes) (foregroundIn (f .bytes) l p xs)
 unfolding foregroundIn
-kind-of-depth frame of xs anInsert = of
-kind-of-depth frame of xs aForeground = new-of-depth frame of xs
-kind-of-depth frame of xs nothing = of
+foreground-of-depth frame of xs anInsert = of
+foreground-of-depth frame of xs aForeground = new-of-depth frame of xs
+foreground-of-depth frame of xs nothing = of
 
 -- ---- they are the definition's
 

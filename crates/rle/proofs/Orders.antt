@@ -23,7 +23,7 @@ use Rattle.rle.specs.Orders.{Ready, Executes, stepIn}
 use Rattle.rle.proofs.Pixels.{length-pixelsOf}
 use Rattle.definition.proofs.Masks.{acted}
 use Rattle.definition.proofs.Planned.{inkBy, kind-acted, Within, kind-within, orders-few, operands-there, image-read}
-use Rattle.rle.proofs.Inks.{kind-of-depth}
+use Rattle.rle.proofs.Inks.{foreground-of-depth}
 
 -- ---- where pixels can be painted
 
@@ -115,7 +115,7 @@ module _ {f : Frame} (src before after : List ℕ) {s : CodeState} {n : ℕ} (re
             record {
               within = omega (arith, i .within, w .pixels);
               row = omega (arith, i .row);
-              foreground = kind-of-depth (ready .frame) (i .foreground) (drop (s .pos) src) (leaves k);
+              foreground = foreground-of-depth (ready .frame) (i .foreground) (drop (s .pos) src) (leaves k);
               counted = orders-few e (i .counted) (w .some);
             };
       }

@@ -27,7 +27,7 @@ use Rattle.rle.specs.Orders.{Ready, Executes}
 use Rattle.rle.proofs.Painting.{painted-as}
 use Rattle.definition.proofs.Masks.{image-masks}
 use Rattle.definition.proofs.Planned.{inkBy, run-most}
-use Rattle.rle.proofs.Inks.{row-reach, kind-of-depth, fg-is, bg-is}
+use Rattle.rle.proofs.Inks.{row-reach, foreground-of-depth, fg-is, bg-is}
 use Rattle.rle.proofs.Orders.{paintable, within, Leaves}
 
 pub executes-kind : {f : Frame} {src before after : List ℕ} {s : CodeState} {r : Stepped} (n : ℕ) {k l : Kind} → k ≡ l
@@ -128,6 +128,6 @@ module _ (f : CodeFrame) (src dst : List ℕ) (s : CodeState) (t : Bool) {u : Co
       let enough = subst (λ (c : Counts). c .pixels ≤ (length src - s .pos - pick t (f .depth .bytes) 0) * 8) (sym plans)
       (image-enough (f .depth .bytes) n (length src - s .pos) (f .total - s .pixels) t) in (
         rw (fg, state)
-            (paintable dst (p .pixels) ready (w .pixels) _ (row-reach AboveXor inv) (kind-of-depth (ready .frame) (inv .foreground) (drop (s .pos) src) (leaves k))),
+            (paintable dst (p .pixels) ready (w .pixels) _ (row-reach AboveXor inv) (foreground-of-depth (ready .frame) (inv .foreground) (drop (s .pos) src) (leaves k))),
         (rw (bg, state) (paintable dst (p .pixels) ready (w .pixels) _ (row-reach Above inv) (ready .frame .black)), rw sized (omega (arith, enough))),
       )
