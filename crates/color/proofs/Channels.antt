@@ -14,9 +14,6 @@ module _ {n : ℕ} (g : ChannelValues n) where
   pub uppers : (4 ≤ n / 8) × (n ≤ 64)
   uppers = elim g [ inl e ↦ rw e (omega arith, omega arith) | inr e ↦ rw e (omega arith, omega arith) ]
 
-  pub channel-small : (c : ℕ) → c < n → 256 / n * c < 256
-  channel-small c h = elim g [ inl e ↦ rw e (omega (arith, rw e at h)) | inr e ↦ rw e (omega (arith, rw e at h)) ]
-
   module _ {low high : ℕ} (l : low < 256) (h : high < 256) where
     pub green : (low + 256 * high) / 32 % n ≡ low / 32 + high % (n / 8) * 8
     green = elim g [ inl e ↦ rw e (omega arith) | inr e ↦ rw e (omega arith) ]

@@ -1,4 +1,5 @@
 pub mod Channels
+pub mod Whites
 pub mod Triples
 pub mod Expanding
 pub mod Agreeing

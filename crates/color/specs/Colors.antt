@@ -18,9 +18,9 @@ use Rattle.color.specs.declared.pixel.Expanded.{Expanded}
 abbrev pub Triple : Type 0
 Triple = List ℕ
 
--- a channel of n values as a byte: n is 32 for five bits, 64 for six
+-- a channel as a byte, by how many values n it has: 32 where it has five bits, else 64, six bits. The low bits repeat the high ones
 unfoldable pub channel : ℕ → ℕ → ℕ
-channel n c = 256 / n * c
+channel n c = pick (eqb n 32) (8 * c + c / 4) (4 * c + c / 16)
 
 -- the number that a pixel of two bytes is
 unfoldable pub word : Pixel → ℕ

@@ -21,12 +21,16 @@ pub struct Expanded {
     pub bgr: [u8; 3],
 }
 
-// A channel of n values as a byte.
+// A channel of n values as a byte. The low bits repeat the high ones, so that the largest value gives 255.
 pub(crate) fn channel_byte(n: usize, c: usize) -> u8
     requires { ⌜ ChannelValues n × (c < n) ⌝ }
     ensures { λ r. ⌜ r ≡ channel n c ⌝ }
 {
-    (256 / n * c) as u8
+    if n == 32 {
+        (8 * c + c / 4) as u8
+    } else {
+        (4 * c + c / 16) as u8
+    }
 }
 
 // The color of a pixel of two bytes, whose green has n values. The channels are taken out of the two bytes one by one: as one number

@@ -1,21 +1,30 @@
--- `channel_byte` meets its contract: the product is the rule of the channel. Assumes nothing.
+-- `channel_byte` meets its contract: the test is the definition's, and a channel has at most 64 values. Assumes nothing.
 use borrow.Author.Needs.{needs}
-use mathlib.Core.Path.{refl}
+use borrow.Author.Tests.{ne-eqb}
 use native.Mathlib.Omega.{arith}
 use Rattle.color.specs.Colors.{channel}
-use Rattle.color.proofs.Channels.{channel-small}
+use Rattle.color.proofs.Channels.{uppers}
 use Rattle.color.proofs.pixel.channel_byte.Statement.{statement}
 use Rattle.color.proofs.pixel.channel_byte.Tie as tie
 
-mul-result : tie.Need-mul-result
-mul-result c = omega (arith, channel-small (c .pre .0) (c .args .c) (c .pre .1))
+mul-result-2 : tie.Need-mul-result-2
+mul-result-2 c = omega (arith, c .before .pre .1, uppers (c .before .pre .0) .1)
 
-cast-result : tie.Need-cast-result
-cast-result c = omega (arith, channel-small (c .pre .0) (c .args .c) (c .pre .1))
+add-result-2 : tie.Need-add-result-2
+add-result-2 c = omega (arith, c .before .pre .1, uppers (c .before .pre .0) .1)
+
+cast-result-2 : tie.Need-cast-result-2
+cast-result-2 c = omega (arith, c .before .pre .1, uppers (c .before .pre .0) .1)
 
 returns : tie.Need-returns
 unfolding channel
-returns c = refl
+returns c = simp (c .if1 .taken)
+
+returns-2 : tie.Need-returns-2
+unfolding channel
+returns-2 c = simp (ne-eqb _ _ (c .if1 .left))
 
 pub channel-byte-spec : {M : Type 1} → statement M
-channel-byte-spec = tie.close (tie.spec (λ c. search needs) mul-result cast-result returns)
+channel-byte-spec =
+    tie.close
+    (tie.spec (λ c. search needs) (λ c. search needs) (λ c. search needs) mul-result-2 add-result-2 cast-result-2 returns returns-2)
