@@ -21,15 +21,22 @@ fn color(pixel: &[u8], bpp: usize, palette: &[u8]) -> [u8; 3] {
             let at = 3 * usize::from(pixel[0]);
             [palette[at], palette[at + 1], palette[at + 2]]
         }
-        15 => [word() & 31, word() >> 5 & 31, word() >> 10 & 31].map(|c| (c * 8) as u8),
+        15 => [word() & 31, word() >> 5 & 31, word() >> 10 & 31].map(five_bits),
         16 => [
-            (word() & 31) * 8,
-            (word() >> 5 & 63) * 4,
-            (word() >> 11) * 8,
-        ]
-        .map(|c| c as u8),
+            five_bits(word() & 31),
+            six_bits(word() >> 5 & 63),
+            five_bits(word() >> 11),
+        ],
         _ => [pixel[0], pixel[1], pixel[2]],
     }
+}
+
+fn five_bits(c: u16) -> u8 {
+    (c << 3 | c >> 2) as u8
+}
+
+fn six_bits(c: u16) -> u8 {
+    (c << 2 | c >> 4) as u8
 }
 
 /// The color of the pixel with this number.
@@ -61,17 +68,28 @@ fn library_expand(picture: &Picture, size: usize, palette: &[u8], canvas: &mut [
     }
 }
 
+/// A color that pixels at 15 and 16 bpp can have too, so that pictures agree to the end. Green has
+/// three high bits alike: its byte is then the same from five bits and from six.
+fn common_color(random: &mut Random) -> [u8; 3] {
+    let green = [0, 1, 2, 3, 28, 29, 30, 31];
+    [
+        five_bits(random.below(32) as u16),
+        five_bits(random.pick(&green)),
+        five_bits(random.below(32) as u16),
+    ]
+}
+
 /// One picture at each depth, all of the same colors.
 fn pictures(indices: &[u8], palette: &[u8]) -> [Vec<u8>; 4] {
     let colors = || indices.iter().map(|index| color(&[*index], 8, palette));
-    let word = |color: [u8; 3], green: u32, red: u32| {
-        let [b, g, r] = color.map(|c| u16::from(c) >> 3);
-        (b | g << green | r << red).to_le_bytes()
+    let word = |color: [u8; 3], green_bits: u32| {
+        let [b, g, r] = color.map(u16::from);
+        (b >> 3 | g >> (8 - green_bits) << 5 | r >> 3 << (5 + green_bits)).to_le_bytes()
     };
     [
         indices.to_vec(),
-        colors().flat_map(|c| word(c, 5, 10)).collect(),
-        colors().flat_map(|c| word(c, 6, 11)).collect(),
+        colors().flat_map(|c| word(c, 5)).collect(),
+        colors().flat_map(|c| word(c, 6)).collect(),
         colors().flatten().collect(),
     ]
 }
@@ -116,8 +134,7 @@ fn time_expansion(pictures: &[Picture], palette: &[u8], rounds: usize) {
 
 fn main() {
     let (rounds, mut random) = (rounds(), Random::new(1));
-    // Entries that two bytes at 15 and 16 bpp can have too, so that pictures agree to the end.
-    let palette: Vec<u8> = random.bytes(768).iter().map(|byte| byte & 0xF8).collect();
+    let palette: Vec<u8> = (0..256).flat_map(|_| common_color(&mut random)).collect();
     let bytes = pictures(&random.bytes(PIXELS), &palette);
     let pictures = [0, 1, 2, 3].map(|i| Picture {
         bytes: &bytes[i],

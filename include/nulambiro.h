@@ -136,10 +136,11 @@ enum {
  * The pixel is given as its bytes in the picture, the first one as low. Bytes
  * that the depth does not use are ignored. At 24 bpp they are blue, green and
  * red. At 15 bpp the pixel has five bits for each channel, at 16 bpp five for
- * blue, six for green and five for red; blue has the lowest bits. A channel c
- * of five bits becomes 8 * c, one of six bits 4 * c. At 8 bpp low is an index
- * i into the palette, whose bytes 3 * i, 3 * i + 1 and 3 * i + 2 are blue,
- * green and red.
+ * blue, six for green and five for red; blue has the lowest bits. The high bits
+ * of a channel are repeated below it: c becomes 8 * c + c / 4 with five bits
+ * and 4 * c + c / 16 with six, rounded down, so white is 255, 255, 255 at 15,
+ * 16 and 24 bpp. At 8 bpp low is an index i into the palette, whose bytes
+ * 3 * i, 3 * i + 1 and 3 * i + 2 are blue, green and red.
  *
  * Refused are, in this order:
  * - NULAMBIRO_INVALID_BPP: bpp is none of 8, 15, 16 and 24. First: bpp.

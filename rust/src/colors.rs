@@ -8,13 +8,15 @@ use crate::Refusal;
 ///
 /// `pixel` has the pixel's bytes as they stand in the picture; bytes that the depth does not use
 /// are ignored. At 24 bits per pixel (`bpp`) they are the color. At 15 `bpp` a pixel has five bits
-/// for each channel, at 16 `bpp` five for blue, six for green and five for red, blue lowest: a
-/// channel c of five bits becomes 8 × c, one of six bits 4 × c. At 8 `bpp` the pixel is an index
-/// into `palette`, 256 entries of blue, green and red; other depths do not look at it.
+/// for each channel, at 16 `bpp` five for blue, six for green and five for red, blue lowest. The
+/// high bits of a channel are repeated below it: c becomes 8 × c + floor(c / 4) with five bits and
+/// 4 × c + floor(c / 16) with six, so that white is 255, 255, 255 at 15, 16 and 24 `bpp`. At 8
+/// `bpp` the pixel is an index into `palette`, 256 entries of blue, green and red; other depths do
+/// not look at it.
 ///
 /// ```
 /// // The top five of 15 bits are red.
-/// assert_eq!(nulambiro::expand([0x00, 0x7C, 0x00], 15, &[]), Ok([0, 0, 248]));
+/// assert_eq!(nulambiro::expand([0x00, 0x7C, 0x00], 15, &[]), Ok([0, 0, 255]));
 /// ```
 ///
 /// # Errors
@@ -76,7 +78,7 @@ pub struct Picture<'a> {
 /// use nulambiro::{same_picture, Picture};
 ///
 /// let at_15 = Picture { bytes: &[0x1F, 0x00], pixels: 1, width: 1, height: 1, bpp: 15 };
-/// let at_24 = Picture { bytes: &[248, 0, 0], bpp: 24, ..at_15 };
+/// let at_24 = Picture { bytes: &[255, 0, 0], bpp: 24, ..at_15 };
 /// assert!(same_picture(&at_15, &at_24, &[]));
 /// assert!(!same_picture(&at_15, &Picture { pixels: 0, ..at_24 }, &[]));
 /// ```

@@ -17,9 +17,32 @@ fn all_pixels_of_two_bytes_follow_the_rule() {
 }
 
 #[test]
-fn white_of_two_bytes_is_not_white() {
-    assert_eq!(expand([0xFF, 0x7F, 0], 15, &[]), Ok([248, 248, 248]));
-    assert_eq!(expand([0xFF, 0xFF, 0], 16, &[]), Ok([248, 252, 248]));
+fn each_value_of_a_channel_has_its_byte() {
+    let pixel = |number: u16| [number as u8, (number >> 8) as u8, 0];
+    for c in 0..32 {
+        let byte = (8 * c + c / 4) as u8;
+        assert_eq!(expand(pixel(c), 15, &[]), Ok([byte, 0, 0]));
+        assert_eq!(expand(pixel(c << 5), 15, &[]), Ok([0, byte, 0]));
+        assert_eq!(expand(pixel(c << 10), 15, &[]), Ok([0, 0, byte]));
+        assert_eq!(expand(pixel(c), 16, &[]), Ok([byte, 0, 0]));
+        assert_eq!(expand(pixel(c << 11), 16, &[]), Ok([0, 0, byte]));
+    }
+    for c in 0..64 {
+        let byte = (4 * c + c / 16) as u8;
+        assert_eq!(expand(pixel(c << 5), 16, &[]), Ok([0, byte, 0]));
+    }
+}
+
+#[test]
+fn white_and_black_are_the_same_at_depths_without_a_palette() {
+    for (bpp, white) in [
+        (15, [0xFF, 0x7F, 0]),
+        (16, [0xFF, 0xFF, 0]),
+        (24, [0xFF, 0xFF, 0xFF]),
+    ] {
+        assert_eq!(expand(white, bpp, &[]), Ok([255, 255, 255]));
+        assert_eq!(expand([0, 0, 0], bpp, &[]), Ok([0, 0, 0]));
+    }
 }
 
 #[test]

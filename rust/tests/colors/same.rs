@@ -33,10 +33,17 @@ fn rule(a: &Picture, b: &Picture, palette: &[u8]) -> bool {
     both.is_some_and(|(x, y)| a.width == b.width && a.height == b.height && x == y)
 }
 
+/// Five bits of green whose byte six bits give too: the three high ones are alike.
+const GREENS: [u16; 8] = [0, 1, 2, 3, 28, 29, 30, 31];
+
 /// Palette with repeated entries, of colors that every depth has.
 fn palette(random: &mut Random) -> Vec<u8> {
     let few: Vec<[u8; 3]> = (0..6)
-        .map(|_| [0; 3].map(|_: u8| random.byte() & 0xF8))
+        .map(|_| {
+            let (blue, red) = (random.below(32) as u16, random.below(32) as u16);
+            let number = blue | random.pick(&GREENS) << 5 | red << 10;
+            color(&number.to_le_bytes(), 15, &[])
+        })
         .collect();
     (0..256).flat_map(|_| random.pick(&few)).collect()
 }
@@ -53,7 +60,10 @@ fn pixel(random: &mut Random, c: [u8; 3], bpp: usize, palette: &[u8]) -> Vec<u8>
             let top = u16::from(random.byte() & 1) << 15;
             (b | g << 5 | r << 10 | top).to_le_bytes().to_vec()
         }
-        16 => (b | g << 6 | r << 11).to_le_bytes().to_vec(),
+        16 => {
+            let green = u16::from(c[1]) >> 2;
+            (b | green << 5 | r << 11).to_le_bytes().to_vec()
+        }
         _ => c.to_vec(),
     }
 }

@@ -1,0 +1,72 @@
+//! Gives the cases of a folder to the package, and compares its answers with those that are due.
+//!
+//! `NN-name.in` has the inputs of request NN and `NN-name.out` the answers, block by block in the
+//! same order, an empty line between two blocks. The script `run` builds and calls this program.
+#![forbid(unsafe_code)]
+
+mod answers;
+mod block;
+mod colors;
+
+use block::Block;
+use std::path::Path;
+use std::process::exit;
+use std::{env, fs};
+
+/// The files of a folder, with what answers a case of each.
+const FILES: [(&str, fn(&Block) -> String); 1] = [("02-expand", colors::expand)];
+
+fn main() {
+    let Some(folder) = env::args().nth(1) else {
+        eprintln!("usage: requests FOLDER");
+        exit(2);
+    };
+    let mut wrong = 0;
+    for (name, answer) in FILES {
+        wrong += compare(Path::new(&folder), name, answer);
+    }
+    exit(i32::from(wrong > 0));
+}
+
+/// Compares the answers to all cases of a file, and returns how many are wrong.
+fn compare(folder: &Path, name: &str, answer: fn(&Block) -> String) -> usize {
+    let (inputs, dues) = (
+        read(&folder.join(format!("{name}.in"))),
+        read(&folder.join(format!("{name}.out"))),
+    );
+    let (inputs, dues) = (blocks(&inputs), blocks(&dues));
+    if inputs.is_empty() || inputs.len() != dues.len() {
+        stop(&format!(
+            "{name}: {} cases, {} answers",
+            inputs.len(),
+            dues.len()
+        ));
+    }
+    let mut wrong = 0;
+    for (number, (input, due)) in inputs.iter().zip(&dues).enumerate() {
+        let given = answer(&Block::new(input));
+        if given.trim_end() != *due {
+            wrong += 1;
+            println!("{name}, case {number}\n{input:.400}\ndue:\n{due:.400}\ngiven:\n{given:.400}");
+        }
+    }
+    println!("{name}: {} cases, {wrong} wrong", inputs.len());
+    wrong
+}
+
+fn read(path: &Path) -> String {
+    fs::read_to_string(path).unwrap_or_else(|error| stop(&format!("{}: {error}", path.display())))
+}
+
+fn blocks(text: &str) -> Vec<&str> {
+    text.split("\n\n")
+        .map(str::trim)
+        .filter(|block| !block.is_empty())
+        .collect()
+}
+
+/// Ends the program: what is to be compared is not there, or can't be read.
+pub(crate) fn stop(message: &str) -> ! {
+    eprintln!("requests: {message}");
+    exit(1);
+}
