@@ -56,6 +56,18 @@ static void colors() {
              report[NULAMBIRO_EXPAND_RED] == 30 && report[6] == 0 &&
              report[7] == 0,
          "nulambiro_expand");
+  // Depths, and the second and third byte of their white.
+  const uint8_t depths[3][3] = {{15, 0x7f, 0}, {16, 0xff, 0}, {24, 0xff, 0xff}};
+  for (const auto &depth : depths) {
+    Report white;
+    nulambiro_expand(0xff, depth[1], depth[2], depth[0], nullptr, 0,
+                     white.places);
+    expect(white[NULAMBIRO_EXPAND_REFUSAL] == NULAMBIRO_OK &&
+               white[NULAMBIRO_EXPAND_BLUE] == 255 &&
+               white[NULAMBIRO_EXPAND_GREEN] == 255 &&
+               white[NULAMBIRO_EXPAND_RED] == 255,
+           "nulambiro_expand for white");
+  }
   expect(nulambiro_palette_look(palette, sizeof palette, 10, 20, 30) == 7,
          "nulambiro_palette_look");
   expect(nulambiro_palette_look(palette, sizeof palette, 30, 20, 10) ==
