@@ -71,10 +71,10 @@ fn library_expand(picture: &Picture, size: usize, palette: &[u8], canvas: &mut [
 /// A color that pixels at 15 and 16 bpp can have too, so that pictures agree to the end. Green has
 /// three high bits alike: its byte is then the same from five bits and from six.
 fn common_color(random: &mut Random) -> [u8; 3] {
-    let green = [0, 1, 2, 3, 28, 29, 30, 31];
+    let greens = [0, 1, 2, 3, 28, 29, 30, 31];
     [
         five_bits(random.below(32) as u16),
-        five_bits(random.pick(&green)),
+        five_bits(random.pick(&greens)),
         five_bits(random.below(32) as u16),
     ]
 }

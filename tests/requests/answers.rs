@@ -10,6 +10,13 @@ pub fn hex(bytes: &[u8]) -> String {
     })
 }
 
+/// The answer to a case, as text.
+pub struct Answer {
+    pub text: String,
+    /// Only a part can be compared: the text has zeros in place of the rest.
+    pub in_part: bool,
+}
+
 /// The three lines of a refusal, or of none.
 pub fn refusal(refusal: Option<&Refusal>) -> String {
     let (number, first, second) = refusal.map_or((0, 0, 0), numbers);

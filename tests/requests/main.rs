@@ -8,13 +8,14 @@ mod answers;
 mod block;
 mod colors;
 
+use answers::Answer;
 use block::Block;
 use std::path::Path;
 use std::process::exit;
 use std::{env, fs};
 
 /// The files of a folder, with what answers a case of each.
-const FILES: [(&str, fn(&Block) -> String); 1] = [("02-expand", colors::expand)];
+const FILES: [(&str, fn(&Block) -> Answer); 1] = [("02-expand", colors::expand)];
 
 fn main() {
     let Some(folder) = env::args().nth(1) else {
@@ -29,7 +30,7 @@ fn main() {
 }
 
 /// Compares the answers to all cases of a file, and returns how many are wrong.
-fn compare(folder: &Path, name: &str, answer: fn(&Block) -> String) -> usize {
+fn compare(folder: &Path, name: &str, answer: fn(&Block) -> Answer) -> usize {
     let (inputs, dues) = (
         read(&folder.join(format!("{name}.in"))),
         read(&folder.join(format!("{name}.out"))),
@@ -42,15 +43,18 @@ fn compare(folder: &Path, name: &str, answer: fn(&Block) -> String) -> usize {
             dues.len()
         ));
     }
-    let mut wrong = 0;
+    let (mut wrong, mut in_part) = (0, 0);
     for (number, (input, due)) in inputs.iter().zip(&dues).enumerate() {
         let given = answer(&Block::new(input));
-        if given.trim_end() != *due {
+        in_part += usize::from(given.in_part);
+        if given.text.trim_end() != *due {
             wrong += 1;
-            println!("{name}, case {number}\n{input:.400}\ndue:\n{due:.400}\ngiven:\n{given:.400}");
+            let text = given.text;
+            println!("{name}, case {number}\n{input:.400}\ndue:\n{due:.400}\ngiven:\n{text:.400}");
         }
     }
-    println!("{name}: {} cases, {wrong} wrong", inputs.len());
+    let cases = inputs.len();
+    println!("{name}: {cases} cases, {in_part} of them compared in part, {wrong} wrong");
     wrong
 }
 

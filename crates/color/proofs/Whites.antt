@@ -11,12 +11,12 @@ use Rattle.color.specs.Contracts.{ChannelValues}
 -- ---- white and black
 
 -- the depth's white gives the largest bytes, and its black zeros
-abbrev pub Contrasts : List ℕ → ℕ → Type 0
-Contrasts palette bpp =
+abbrev pub Extremes : List ℕ → ℕ → Type 0
+Extremes palette bpp =
     (expanded palette bpp (depthOf bpp .white) ≡ giving (255 ∷ 255 ∷ 255 ∷ []))
     × (expanded palette bpp (depthOf bpp .black) ≡ giving (0 ∷ 0 ∷ 0 ∷ []))
 
-pub whites-match : (palette : List ℕ) → Contrasts palette 15 × (Contrasts palette 16 × Contrasts palette 24)
+pub whites-match : (palette : List ℕ) → Extremes palette 15 × (Extremes palette 16 × Extremes palette 24)
 unfolding expanded colorOf expandWord word channel paletteFits depthIndex depthOf depths
 whites-match palette = ((refl, refl), ((refl, refl), (refl, refl)))
 
