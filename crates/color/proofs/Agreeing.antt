@@ -11,8 +11,8 @@ use lib.ListN.{length}
 use borrow.Author.Tests.{leb-true}
 use Rattle.base.proofs.Tests.{before-or-last, apart}
 use Rattle.picture.specs.Sizes.{checked, depthOf, Size, bytes, refused, sizeOf, hasSpace}
-use Rattle.color.specs.Colors.{Triple, paletteFits}
-use Rattle.color.specs.SamePicture.{Picture, both, valid, colorAt, sameTriple, sameColors}
+use Rattle.color.specs.Colors.{Triple, both, sameTriple, paletteFits}
+use Rattle.color.specs.SamePicture.{Picture, valid, colorAt, sameColors}
 use Rattle.color.specs.Contracts.{Expandable}
 use Rattle.color.proofs.Triples.{all-true}
 use Rattle.picture.proofs.Sizes.{sized}

@@ -9,8 +9,8 @@ use lib.ListN.{length}
 use borrow.Author.Tests.{eqb-true, eq-eqb}
 use Rattle.base.proofs.Tests.{by-test, before-or-last, both-true}
 use Rattle.picture.specs.Pixels.{pixelAt, firstPixel}
-use Rattle.color.specs.Colors.{Triple, colorOf, entry, expandWord}
-use Rattle.color.specs.SamePicture.{Picture, Alike, both, valid, colorAt, sameTriple, sameColors, samePicture}
+use Rattle.color.specs.Colors.{Triple, both, sameTriple, colorOf, entry, expandWord}
+use Rattle.color.specs.SamePicture.{Picture, Alike, valid, colorAt, sameColors, samePicture}
 use Rattle.color.proofs.Triples.{same-equal, equal-same}
 
 -- ---- colors are triples

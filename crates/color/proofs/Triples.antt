@@ -7,8 +7,7 @@ use lib.ListN.{length, getD}
 use borrow.Author.Tests.{eq-eqb, eqb-true}
 use Rattle.base.proofs.Tests.{both-true}
 use Rattle.picture.proofs.Pixels.{three}
-use Rattle.color.specs.Colors.{Triple}
-use Rattle.color.specs.SamePicture.{both, sameTriple}
+use Rattle.color.specs.Colors.{Triple, both, sameTriple}
 
 pub all-true : (a b c : Bool) → both a (both b c) ≡ true → (a ≡ true) × (b ≡ true) × (c ≡ true)
 all-true a b c e =

@@ -2,7 +2,7 @@
 -- `expand` gives what `expanded` says, and same picture compares the same colors. The rule of a channel stands in one place,
 -- `channel`.
 use mathlib.Core.List.{List, [], _∷_}
-use mathlib.Core.Bool.{Bool, true}
+use mathlib.Core.Bool.{Bool, true, false}
 use Prim.Native.Nat.{ℕ, _+_, _*_, _/_, _%_}
 use lib.Dec.{eqb, leb}
 use lib.ListN.{length, getD}
@@ -17,6 +17,14 @@ use Rattle.color.specs.declared.pixel.Expanded.{Expanded}
 -- blue, green, red
 abbrev pub Triple : Type 0
 Triple = List ℕ
+
+abbrev pub both : Bool → Bool → Bool
+both a b = pick a b false
+
+-- whether two triples are equal, byte by byte
+unfoldable pub sameTriple : Triple → Triple → Bool
+sameTriple s t =
+    both (eqb (getD s 0 0) (getD t 0 0)) (both (eqb (getD s 1 0) (getD t 1 0)) (eqb (getD s 2 0) (getD t 2 0)))
 
 -- a channel as a byte, by how many values n it has: 32 where it has five bits, else 64, six bits. The low bits repeat the high ones
 unfoldable pub channel : ℕ → ℕ → ℕ

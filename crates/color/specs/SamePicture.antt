@@ -2,15 +2,14 @@
 -- depths may differ.
 use mathlib.Core.Path.{_≡_}
 use mathlib.Core.List.{List}
-use mathlib.Core.Bool.{Bool, true, false}
+use mathlib.Core.Bool.{Bool, true}
 use Prim.Native.Nat.{ℕ, zero, suc, _*_, _<_}
 use lib.Dec.{eqb, leb}
-use lib.ListN.{length, getD}
-use Rattle.base.specs.Picks.{pick}
+use lib.ListN.{length}
 use Rattle.picture.specs.Pixels.{pixelAt}
 use Rattle.picture.specs.Sizes.{depthOf, checked, sizeOf, hasSpace}
 use Rattle.color.specs.declared.same.Shape.{Shape}
-use Rattle.color.specs.Colors.{Triple, colorOf, paletteFits}
+use Rattle.color.specs.Colors.{Triple, both, sameTriple, colorOf, paletteFits}
 
 -- a picture of which the first `pixels` pixels are painted
 pub record Picture : Type 0 where
@@ -27,9 +26,6 @@ picture xs pixels width height bpp = record { slice = xs; pixels = pixels; width
 abbrev pub pictureOf : List ℕ → Shape → Picture
 pictureOf xs s = picture xs (s .pixels) (s .width) (s .height) (s .bpp)
 
-abbrev pub both : Bool → Bool → Bool
-both a b = pick a b false
-
 -- depth and sizes are good, the slice has space for the whole picture, the count is not above its pixels, and the palette has its entries
 unfoldable pub valid : List ℕ → Picture → Bool
 valid palette p =
@@ -39,10 +35,6 @@ valid palette p =
 -- the color of pixel k
 unfoldable pub colorAt : List ℕ → Picture → ℕ → Triple
 colorAt palette p k = colorOf palette (p .bpp) (pixelAt (depthOf (p .bpp) .bytes) (p .slice) k)
-
-unfoldable pub sameTriple : Triple → Triple → Bool
-sameTriple s t =
-    both (eqb (getD s 0 0) (getD t 0 0)) (both (eqb (getD s 1 0) (getD t 1 0)) (eqb (getD s 2 0) (getD t 2 0)))
 
 -- the first n pixels have the same colors
 unfoldable pub sameColors : List ℕ → Picture → Picture → ℕ → Bool

@@ -1,8 +1,7 @@
 // Palettes: 256 triples of blue, green and red, in the first 768 bytes.
 ghost use mathlib.Core.Path.{_≡_};
-ghost use Rattle.color.specs.Colors.{paletteFits};
-ghost use Rattle.color.specs.Look.{Looked};
-ghost use Rattle.color.specs.SamePicture.{sameTriple};
+ghost use Rattle.color.specs.Colors.{paletteFits, sameTriple};
+ghost use Rattle.color.specs.Look.{lowestIndex};
 use crate::read::pixel_at;
 
 pub enum Look {
@@ -32,9 +31,9 @@ pub(crate) fn palette_fits(bpp: usize, palette: &[u8]) -> bool
     768 <= palette.len()
 }
 
-// An index whose entry is the triple.
+// The lowest index whose entry is the triple.
 pub fn palette_look(palette: &[u8], triple: [u8; 3]) -> Look
-    ensures { λ r. ⌜ Looked (now (palette .entry)) triple r ⌝ }
+    ensures { λ r. ⌜ r ≡ lowestIndex (now (palette .entry)) triple ⌝ }
 {
     if palette.len() < 768 {
         return Look::Nothing;

@@ -1,15 +1,13 @@
 -- The numbers that the exported color functions hand to C, for the answers that the definitions give.
 use mathlib.Core.List.{List, [], _∷_}
 use mathlib.Core.Bool.{Bool}
-use Prim.Native.Nat.{ℕ, _≤_}
-use lib.Dec.{ltb}
+use Prim.Native.Nat.{ℕ}
 use lib.ListN.{getD}
 use Rattle.base.specs.Picks.{pick}
 use Rattle.picture.specs.Sizes.{Refusal}
 use Rattle.color.specs.declared.palette.Look.{Look}
 use Rattle.color.specs.declared.palette.Look.the-variants.{At, Nothing}
 use Rattle.color.specs.Colors.{Triple, Expansion}
-use Rattle.color.specs.Look.{Looked}
 use Rattle.screen.specs.Rows.{RowPart}
 
 -- refusal (0: none), first, second, blue, green, red
@@ -20,13 +18,10 @@ unfoldable pub expansionNumbers : Expansion → List ℕ
 unfolding numbersOf
 expansionNumbers e = numbersOf (e .refusal) (e .triple)
 
--- 256: nothing
-abbrev pub lookOf : ℕ → Look
-lookOf r = pick (ltb r 256) (At r) Nothing
-
-pub record LookedAt (palette : List ℕ) (t : Triple) (r : ℕ) : Type 0 where
-  pub most : r ≤ 256
-  pub looked : Looked palette t (lookOf r)
+-- the index, which is below 256; 256: nothing
+abbrev pub indexNumber : Look → ℕ
+indexNumber (At i) = i
+indexNumber Nothing = 256
 
 abbrev pub yesNo : Bool → ℕ
 yesNo t = pick t 1 0

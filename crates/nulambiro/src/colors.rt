@@ -2,9 +2,10 @@
 ghost use mathlib.Core.Path.{_≡_};
 ghost use mathlib.Core.List.{[], _∷_};
 ghost use Rattle.color.specs.Colors.{expanded, refusalIn};
+ghost use Rattle.color.specs.Look.{lowestIndex};
 ghost use Rattle.color.specs.SamePicture.{samePicture, picture};
 ghost use Rattle.screen.specs.Rows.{partToShow};
-ghost use Rattle.nulambiro.specs.ColorNumbers.{numbersOf, expansionNumbers, LookedAt, yesNo, partNumbers};
+ghost use Rattle.nulambiro.specs.ColorNumbers.{numbersOf, expansionNumbers, indexNumber, yesNo, partNumbers};
 use color::Expansion;
 use color::Look;
 use color::Shape;
@@ -55,7 +56,7 @@ pub extern "C" fn nulambiro_expand(
 
 #[no_mangle]
 pub extern "C" fn nulambiro_palette_look(palette: &[u8], blue: u8, green: u8, red: u8) -> usize
-    ensures { λ r. ⌜ LookedAt (now (palette .entry)) (blue ∷ green ∷ red ∷ []) r ⌝ }
+    ensures { λ r. ⌜ r ≡ indexNumber (lowestIndex (now (palette .entry)) (blue ∷ green ∷ red ∷ [])) ⌝ }
 {
     let look = color::palette_look(palette, [blue, green, red]);
     match look {

@@ -3,7 +3,7 @@ use borrow.Author.Needs.{needs}
 use borrow.Author.Tests.{eq-eqb, ne-eqb}
 use mathlib.Core.Path.{_≡_}
 use mathlib.Core.Bool.{Bool, true}
-use Rattle.color.specs.SamePicture.{both, sameTriple}
+use Rattle.color.specs.Colors.{both, sameTriple}
 use Rattle.color.proofs.palette.same_triple.Statement.{statement}
 use Rattle.color.proofs.palette.same_triple.Tie as tie
 

@@ -1,18 +1,15 @@
--- `nulambiro_palette_look` meets its contract: an index that was found is below 256. Assumes nothing.
+-- `nulambiro_palette_look` meets its contract: each answer has its number. Assumes nothing.
 use borrow.Author.Needs.{needs}
-use native.Mathlib.Omega.{arith}
-use borrow.Author.Tests.{lt-ltb}
+use mathlib.Core.Path.{ap, sym, _∙_}
+use Rattle.nulambiro.specs.ColorNumbers.{indexNumber}
 use Rattle.nulambiro.proofs.colors.nulambiro_palette_look.Statement.{statement}
 use Rattle.nulambiro.proofs.colors.nulambiro_palette_look.Tie as tie
 
 returns : tie.Need-returns
-returns c =
-    let m = rw (c .before .look .given .1) at (c .before .before .before .palette-look .ensures) in
-    record { most = omega (arith, m .index); looked = rw (lt-ltb _ 256 (m .index)) m }
+returns c = ap indexNumber (sym (c .before .look .given .1) ∙ c .before .before .before .palette-look .ensures)
 
 returns-2 : tie.Need-returns-2
-returns-2 c =
-    record { most = omega arith; looked = rw (c .enum-told .given .1) at (c .before .before .palette-look .ensures) }
+returns-2 c = ap indexNumber (sym (c .enum-told .given .1) ∙ c .before .before .palette-look .ensures)
 
 pub nulambiro-palette-look-spec : {M : Type 1} → statement M
 nulambiro-palette-look-spec =
