@@ -45,9 +45,11 @@ static void decompress() {
 
 static void colors() {
   uint8_t palette[NULAMBIRO_PALETTE_BYTES] = {0};
-  palette[3 * 7] = 10;
-  palette[3 * 7 + 1] = 20;
-  palette[3 * 7 + 2] = 30;
+  for (size_t i : {7, 9}) {
+    palette[3 * i] = 10;
+    palette[3 * i + 1] = 20;
+    palette[3 * i + 2] = 30;
+  }
   Report report;
   nulambiro_expand(7, 8, 9, 8, palette, sizeof palette, report.places);
   expect(report[NULAMBIRO_EXPAND_REFUSAL] == NULAMBIRO_OK &&
@@ -68,8 +70,9 @@ static void colors() {
                white[NULAMBIRO_EXPAND_RED] == 255,
            "nulambiro_expand for white");
   }
-  expect(nulambiro_palette_look(palette, sizeof palette, 10, 20, 30) == 7,
-         "nulambiro_palette_look");
+  expect(nulambiro_palette_look(palette, sizeof palette, 10, 20, 30) == 7 &&
+             nulambiro_palette_look(palette, sizeof palette, 0, 0, 0) == 0,
+         "nulambiro_palette_look for colors that several entries have");
   expect(nulambiro_palette_look(palette, sizeof palette, 30, 20, 10) ==
              NULAMBIRO_NO_ENTRY,
          "nulambiro_palette_look for a color that is not there");

@@ -161,10 +161,9 @@ void nulambiro_expand(uint8_t low, uint8_t middle, uint8_t high, size_t bpp,
 #define NULAMBIRO_NO_ENTRY 256
 
 /*
- * Returns the index of a palette entry, 0 to 255, that equals the color, or
+ * Returns the lowest index, 0 to 255, whose palette entry equals the color, or
  * NULAMBIRO_NO_ENTRY exactly if no entry does or the palette has fewer than
- * NULAMBIRO_PALETTE_BYTES bytes. Which index is returned is not promised where
- * several entries equal the color.
+ * NULAMBIRO_PALETTE_BYTES bytes. Bytes past the 256 entries are ignored.
  *
  * palette must be readable for palette_len bytes, or may be a null pointer if
  * that is 0.

@@ -33,14 +33,15 @@ pub fn expand(pixel: [u8; 3], bpp: usize, palette: &[u8]) -> Result<[u8; 3], Ref
     }
 }
 
-/// Returns the index of a palette entry that equals `color`, blue, green and red.
+/// Returns the lowest index whose palette entry equals `color`, blue, green and red.
 ///
-/// `None` exactly if no entry does, or the palette has fewer than 768 bytes. Where several entries
-/// equal the color, the index is one of theirs.
+/// `None` exactly if no entry does, or the palette has fewer than 768 bytes. Bytes past the 256
+/// entries are ignored.
 ///
 /// ```
 /// let mut palette = [0; 768];
 /// palette[3 * 7..][..3].copy_from_slice(&[10, 20, 30]);
+/// palette[3 * 9..][..3].copy_from_slice(&[10, 20, 30]);
 /// assert_eq!(nulambiro::palette_look(&palette, [10, 20, 30]), Some(7));
 /// assert_eq!(nulambiro::palette_look(&palette, [30, 20, 10]), None);
 /// ```

@@ -15,7 +15,8 @@ use std::process::exit;
 use std::{env, fs};
 
 /// The files of a folder, with what answers a case of each.
-const FILES: [(&str, fn(&Block) -> Answer); 1] = [("02-expand", colors::expand)];
+const FILES: [(&str, fn(&Block) -> Answer); 2] =
+    [("02-expand", colors::expand), ("05-look", colors::look)];
 
 fn main() {
     let Some(folder) = env::args().nth(1) else {

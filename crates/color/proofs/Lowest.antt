@@ -1,21 +1,33 @@
 -- Palette look gives the lowest index that has the triple, and nothing exactly if none has it; no other answer does. Assumes nothing.
 use mathlib.Core.Path.{_≡_, refl}
-use mathlib.Core.List.{List}
+use mathlib.Core.List.{List, [], _∷_, _++_}
 use mathlib.Core.Bool.{Bool, true, false}
 use Prim.Native.Nat.{ℕ, zero, suc, _+_, _-_, _≤_, _<_}
 use native.Mathlib.Numerals.{add-one}
 use native.Mathlib.Omega.{arith}
 use lib.Dec.{leb}
-use lib.ListN.{length}
+use lib.ListN.{length, replicate}
 use borrow.Author.Tests.{leb-true, leb-false, le-leb}
 use Rattle.base.proofs.Tests.{by-test, by-less, before-or-last, apart}
-use Rattle.picture.specs.Pixels.{pixelAt}
+use Rattle.picture.specs.Pixels.{pixelAt, firstPixel}
 use Rattle.picture.proofs.Pixels.{length-first-pixel}
 use Rattle.color.specs.declared.palette.Look.{Look}
 use Rattle.color.specs.declared.palette.Look.the-variants.{At, Nothing}
 use Rattle.color.specs.Colors.{Triple, sameTriple, entry}
 use Rattle.color.specs.Look.{Matches, Looked, lowestFrom, lowestIndex}
 use Rattle.color.proofs.Triples.{same-equal, equal-same}
+
+-- ---- a palette whose entries repeat, by computing
+
+-- 254 black entries, then twice another color
+abbrev repeating : List ℕ
+repeating = replicate 762 0 ++ (10 ∷ 20 ∷ 30 ∷ 10 ∷ 20 ∷ 30 ∷ [])
+
+pub repeats-computed :
+    (lowestIndex repeating (0 ∷ 0 ∷ 0 ∷ []) ≡ At 0) × (lowestIndex repeating (10 ∷ 20 ∷ 30 ∷ []) ≡ At 254)
+    × (lowestIndex repeating (30 ∷ 20 ∷ 10 ∷ []) ≡ Nothing)
+unfolding lowestIndex lowestFrom entry sameTriple pixelAt firstPixel
+repeats-computed = (refl, refl, refl)
 
 -- ---- one entry on
 
@@ -42,8 +54,8 @@ module _ (palette : List ℕ) (t : Triple) (three : length t ≡ 3) where
   unfolding entry pixelAt
   has-triple i = same-equal (entry palette i) t (length-first-pixel 3 _) three
 
-  has-not : (i : ℕ) → sameTriple (entry palette i) t ≡ false → entry palette i ≡ t → ⊥
-  has-not i e h = apart (cc (equal-same (entry palette i) t h, e))
+  lacks-triple : (i : ℕ) → sameTriple (entry palette i) t ≡ false → entry palette i ≡ t → ⊥
+  lacks-triple i e h = apart (cc (equal-same (entry palette i) t h, e))
 
   -- the n entries from index i on are the last, and none before has the triple
   looked-from : (i n : ℕ) → i + n ≡ 256 → 768 ≤ length palette → ((k : ℕ) → k < i → entry palette k ≡ t → ⊥)
@@ -53,7 +65,7 @@ module _ (palette : List ℕ) (t : Triple) (three : length t ≡ 3) where
   looked-from i (suc n) e long none =
       by-test (Looked palette t) (sameTriple (entry palette i) t)
       (λ h. (record { long = long; index = omega arith; equal = has-triple i h }, λ k l m. none k l (m .equal)))
-      (λ h. looked-from (suc i) n (omega arith) long (λ k l. before-or-last k i l (none k) (λ j. rw j (has-not i h))))
+      (λ h. looked-from (suc i) n (omega arith) long (λ k l. before-or-last k i l (none k) (λ j. rw j (lacks-triple i h))))
 
   pub lowest-looked : Looked palette t (lowestIndex palette t)
   unfolding lowestIndex
