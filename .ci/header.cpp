@@ -45,11 +45,9 @@ static void decompress() {
 
 static void colors() {
   uint8_t palette[NULAMBIRO_PALETTE_BYTES] = {0};
-  for (size_t i : {7, 9}) {
-    palette[3 * i] = 10;
-    palette[3 * i + 1] = 20;
-    palette[3 * i + 2] = 30;
-  }
+  const uint8_t entry[3] = {10, 20, 30};
+  std::memcpy(palette + 3 * 7, entry, sizeof entry);
+  std::memcpy(palette + 3 * 9, entry, sizeof entry);
   Report report;
   nulambiro_expand(7, 8, 9, 8, palette, sizeof palette, report.places);
   expect(report[NULAMBIRO_EXPAND_REFUSAL] == NULAMBIRO_OK &&
