@@ -1,4 +1,4 @@
--- Palette look gives the lowest index that has the triple, and nothing exactly if none has it; no other answer does. Assumes nothing.
+-- Palette look gives the lowest index that has the triple, and nothing exactly if none has it; no other answer is right. Assumes nothing.
 use mathlib.Core.Path.{_≡_, refl}
 use mathlib.Core.List.{List, [], _∷_, _++_}
 use mathlib.Core.Bool.{Bool, true, false}

@@ -22,7 +22,8 @@ fn every_entry_is_found() {
     let palette = Random::new(1).bytes(768);
     for entry in palette.chunks(3) {
         let color = [entry[0], entry[1], entry[2]];
-        assert!(palette_look(&palette, color).is_some());
+        let found = palette_look(&palette, color).expect("an entry equals the color");
+        assert_eq!(Some(found), lowest(&palette, color));
     }
 }
 
