@@ -2,6 +2,7 @@ pub mod Channels
 pub mod Whites
 pub mod Triples
 pub mod Lowest
-pub mod Expanding
-pub mod Agreeing
+pub mod Every
+pub mod Blocks
+pub mod Painted
 pub mod Meaning

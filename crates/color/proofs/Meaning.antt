@@ -1,74 +1,77 @@
--- `samePicture` says yes exactly if the pictures are alike. Assumes nothing.
+-- `samePicture` says yes exactly if the pictures are alike: their depths and stored bytes decide, and the colors follow. Assumes nothing.
 use mathlib.Core.Path.{_≡_, refl}
 use mathlib.Core.List.{List}
-use mathlib.Core.Bool.{true}
-use Prim.Native.Nat.{ℕ, zero, suc, _<_}
+use mathlib.Core.Bool.{true, false}
+use Prim.Native.Nat.{ℕ, _+_, _*_, _≤_, _<_}
+use native.Mathlib.Nat.{mul-le-mul-right}
 use native.Mathlib.Omega.{arith}
 use lib.Dec.{eqb}
-use lib.ListN.{length}
+use lib.ListN.{getD, drop}
+use lib.Seq.{getD-drop}
 use borrow.Author.Tests.{eqb-true, eq-eqb}
-use Rattle.base.proofs.Tests.{by-test, before-or-last, both-true}
-use Rattle.picture.specs.Pixels.{pixelAt, firstPixel}
-use Rattle.color.specs.Colors.{Triple, both, sameTriple, colorOf, entry, expandWord}
-use Rattle.color.specs.SamePicture.{Picture, Alike, valid, colorAt, sameColors, samePicture}
-use Rattle.color.proofs.Triples.{same-equal, equal-same}
+use Rattle.base.proofs.Tests.{both-true}
+use Rattle.picture.specs.Pixels.{pixelAt}
+use Rattle.picture.specs.Sizes.{depthOf}
+use Rattle.picture.proofs.Depths.{depth-good}
+use Rattle.picture.proofs.Pixels.{first-pixel-cong}
+use Rattle.color.specs.Colors.{both}
+use Rattle.color.specs.SamePicture.{Picture, Alike, valid, colorAt, sameBytes, sameColors, samePicture, sameStored}
+use Rattle.color.proofs.Blocks.{same-bytes, bytes-same}
+use Rattle.color.proofs.Every.{not-yes, same-test, passes-every}
+use Rattle.color.proofs.Painted.{valid-painted}
+use Rattle.color.proofs.Triples.{equal-same}
 
--- ---- colors are triples
+-- ---- the colors follow
 
-abbrev Long : Triple → Type 0
-Long t = length t ≡ 3
-
-module _ (palette : List ℕ) (p : Picture) (k : ℕ) where
-  triple : length (colorAt palette p k) ≡ 3
-  unfolding colorAt colorOf entry expandWord pixelAt firstPixel
-  triple =
-      by-test Long (eqb (p .bpp) 8) (λ _. refl) (λ _. by-test Long (eqb (p .bpp) 15) (λ _. refl) (λ _. by-test Long (eqb (p .bpp) 16) (λ _. refl) (λ _. refl)))
-
--- ---- the painted pixels
+module _ (xs ys : List ℕ) (D n : ℕ) (low : 1 ≤ D) (same : (i : ℕ) → i < n * D → getD xs i 0 ≡ getD ys i 0) where
+  same-pixel : (k : ℕ) → k < n → pixelAt D xs k ≡ pixelAt D ys k
+  unfolding pixelAt
+  same-pixel k h =
+      let all : (k + 1) * D ≤ n * D = mul-le-mul-right D (omega arith) in
+      first-pixel-cong D (drop (k * D) xs) (drop (k * D) ys) low (λ i l. rw (getD-drop, getD-drop) (same (k * D + i) (omega arith)))
 
 module _ (palette : List ℕ) (a b : Picture) where
-  same-color : (k : ℕ) → sameTriple (colorAt palette a k) (colorAt palette b k) ≡ true → colorAt palette a k ≡ colorAt palette b k
-  same-color k = same-equal (colorAt palette a k) (colorAt palette b k) (triple palette a k) (triple palette b k)
-
-  colors-agree : (n : ℕ) → sameColors palette a b n ≡ true → (k : ℕ) → k < n → colorAt palette a k ≡ colorAt palette b k
-  unfolding sameColors
-  colors-agree zero e k h = absurd (omega arith)
-  colors-agree (suc n) e k h =
-      let s = both-true (sameColors palette a b n) (sameTriple (colorAt palette a n) (colorAt palette b n)) e in
-      before-or-last k n h (λ l. colors-agree n (s .0) k l) (λ i. rw i (same-color n (s .1)))
-
-  agree-colors : (n : ℕ) → ((k : ℕ) → k < n → colorAt palette a k ≡ colorAt palette b k) → sameColors palette a b n ≡ true
-  unfolding sameColors
-  agree-colors zero e = refl
-  agree-colors (suc n) e =
-      rw (agree-colors n (λ k h. e k (omega arith)))
-      (equal-same (colorAt palette a n) (colorAt palette b n) (e n (omega arith)))
+  -- pixels of one depth that are stored in the same bytes
+  pub alike-colors : Alike palette a b → (k : ℕ) → k < a .pixels → colorAt palette a k ≡ colorAt palette b k
+  unfolding colorAt
+  alike-colors s k h =
+      let low = depth-good (a .bpp) (valid-painted palette a (s .first) .depth) .low in
+      rw (← s .depths, same-pixel (a .slice) (b .slice) (depthOf (a .bpp) .bytes) (a .pixels) low (s .bytes) k h) refl
 
   -- ---- the definition
 
   pub same-alike : samePicture palette a b ≡ true → Alike palette a b
-  unfolding samePicture
+  unfolding samePicture sameStored
   same-alike e =
       let colors = sameColors palette a b (a .pixels) in
+      let bytes = sameBytes (a .slice) (b .slice) (a .pixels * depthOf (a .bpp) .bytes) in
+      let depths = eqb (a .bpp) (b .bpp) in
       let counts = eqb (a .pixels) (b .pixels) in
       let heights = eqb (a .height) (b .height) in
       let widths = eqb (a .width) (b .width) in
       let e₁ = both-true (valid palette a) _ e in
-      let e₂ = both-true (valid palette b) (both widths (both heights (both counts colors))) (e₁ .1) in
-      let e₃ = both-true widths (both heights (both counts colors)) (e₂ .1) in
-      let e₄ = both-true heights (both counts colors) (e₃ .1) in
-      let e₅ = both-true counts colors (e₄ .1) in
+      let e₂ = both-true (valid palette b) (both widths (both heights (both counts (both (both depths bytes) colors)))) (e₁ .1) in
+      let e₃ = both-true widths (both heights (both counts (both (both depths bytes) colors))) (e₂ .1) in
+      let e₄ = both-true heights (both counts (both (both depths bytes) colors)) (e₃ .1) in
+      let e₅ = both-true counts (both (both depths bytes) colors) (e₄ .1) in
+      let e₆ = both-true (both depths bytes) colors (e₅ .1) in
+      let e₇ = both-true depths bytes (e₆ .0) in
       record {
         first = e₁ .0;
         second = e₂ .0;
         widths = eqb-true (a .width) (b .width) (e₃ .0);
         heights = eqb-true (a .height) (b .height) (e₄ .0);
         counts = eqb-true (a .pixels) (b .pixels) (e₅ .0);
-        colors = colors-agree (a .pixels) (e₅ .1);
+        depths = eqb-true (a .bpp) (b .bpp) (e₇ .0);
+        bytes = same-bytes (a .slice) (b .slice) (a .pixels * depthOf (a .bpp) .bytes) (e₇ .1);
       }
 
+  colors-same : Alike palette a b → sameColors palette a b (a .pixels) ≡ true
+  unfolding sameColors
+  colors-same s = passes-every _ (a .pixels) (λ k h. equal-same (colorAt palette a k) (colorAt palette b k) (alike-colors s k h))
+
   pub alike-same : Alike palette a b → samePicture palette a b ≡ true
-  unfolding samePicture
+  unfolding samePicture sameStored
   alike-same s =
       simp (
         s .first,
@@ -76,5 +79,23 @@ module _ (palette : List ℕ) (a b : Picture) where
         eq-eqb (a .width) (b .width) (s .widths),
         eq-eqb (a .height) (b .height) (s .heights),
         eq-eqb (a .pixels) (b .pixels) (s .counts),
-        agree-colors (a .pixels) (s .colors),
+        eq-eqb (a .bpp) (b .bpp) (s .depths),
+        bytes-same (a .slice) (b .slice) (a .pixels * depthOf (a .bpp) .bytes) (s .bytes),
+        colors-same s,
       )
+
+  -- ---- what the code finds
+
+  pub differs : (Alike palette a b → ⊥) → false ≡ samePicture palette a b
+  differs h = not-yes (samePicture palette a b) (λ e. h (same-alike e))
+
+  pub bytes-decide : valid palette a ≡ true → valid palette b ≡ true → a .width ≡ b .width → a .height ≡ b .height
+      → a .pixels ≡ b .pixels → a .bpp ≡ b .bpp
+      → sameBytes (a .slice) (b .slice) (a .pixels * depthOf (a .bpp) .bytes) ≡ samePicture palette a b
+  bytes-decide va vb w h n d =
+      let count = a .pixels * depthOf (a .bpp) .bytes in
+      same-test (sameBytes (a .slice) (b .slice) count) (samePicture palette a b)
+      (λ e.
+      alike-same
+      (record { first = va; second = vb; widths = w; heights = h; counts = n; depths = d; bytes = same-bytes (a .slice) (b .slice) count e }))
+      (λ e. bytes-same (a .slice) (b .slice) count (same-alike e .bytes))

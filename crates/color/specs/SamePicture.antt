@@ -1,11 +1,11 @@
--- Same picture: both arguments are valid, and widths, heights, pixel counts and the colors of all painted pixels agree. The
--- depths may differ.
+-- Same picture: both arguments are valid; widths, heights, pixel counts and bits per pixel agree; and so do the stored bytes and the
+-- colors of all painted pixels.
 use mathlib.Core.Path.{_≡_}
 use mathlib.Core.List.{List}
 use mathlib.Core.Bool.{Bool, true}
 use Prim.Native.Nat.{ℕ, zero, suc, _*_, _<_}
 use lib.Dec.{eqb, leb}
-use lib.ListN.{length}
+use lib.ListN.{length, getD}
 use Rattle.picture.specs.Pixels.{pixelAt}
 use Rattle.picture.specs.Sizes.{depthOf, checked, sizeOf, hasSpace}
 use Rattle.color.specs.declared.same.Shape.{Shape}
@@ -36,10 +36,22 @@ valid palette p =
 unfoldable pub colorAt : List ℕ → Picture → ℕ → Triple
 colorAt palette p k = colorOf palette (p .bpp) (pixelAt (depthOf (p .bpp) .bytes) (p .slice) k)
 
+-- the test holds of every number below n
+unfoldable pub everyBelow : ℕ → (ℕ → Bool) → Bool
+everyBelow zero test = true
+everyBelow (suc n) test = both (everyBelow n test) (test n)
+
 -- the first n pixels have the same colors
 unfoldable pub sameColors : List ℕ → Picture → Picture → ℕ → Bool
-sameColors palette a b zero = true
-sameColors palette a b (suc n) = both (sameColors palette a b n) (sameTriple (colorAt palette a n) (colorAt palette b n))
+sameColors palette a b n = everyBelow n (λ k. sameTriple (colorAt palette a k) (colorAt palette b k))
+
+-- the first n bytes are the same
+unfoldable pub sameBytes : List ℕ → List ℕ → ℕ → Bool
+sameBytes xs ys n = everyBelow n (λ i. eqb (getD xs i 0) (getD ys i 0))
+
+-- the first n pixels are stored alike: with as many bits per pixel, and in the same bytes
+unfoldable pub sameStored : Picture → Picture → ℕ → Bool
+sameStored a b n = both (eqb (a .bpp) (b .bpp)) (sameBytes (a .slice) (b .slice) (n * depthOf (a .bpp) .bytes))
 
 -- the definition
 unfoldable pub samePicture : List ℕ → Picture → Picture → Bool
@@ -47,13 +59,16 @@ samePicture palette a b =
     both (valid palette a)
     (both (valid palette b)
     (both (eqb (a .width) (b .width))
-    (both (eqb (a .height) (b .height)) (both (eqb (a .pixels) (b .pixels)) (sameColors palette a b (a .pixels))))))
+    (both (eqb (a .height) (b .height))
+    (both (eqb (a .pixels) (b .pixels))
+    (both (sameStored a b (a .pixels)) (sameColors palette a b (a .pixels)))))))
 
--- what a yes says (proofs/Meaning.antt: it is yes exactly if this holds)
+-- what a yes says (proofs/Meaning.antt: it is yes exactly if this holds, and the colors of painted pixels then agree)
 pub record Alike (palette : List ℕ) (a b : Picture) : Type 0 where
   pub first : valid palette a ≡ true
   pub second : valid palette b ≡ true
   pub widths : a .width ≡ b .width
   pub heights : a .height ≡ b .height
   pub counts : a .pixels ≡ b .pixels
-  pub colors : (k : ℕ) → k < a .pixels → colorAt palette a k ≡ colorAt palette b k
+  pub depths : a .bpp ≡ b .bpp
+  pub bytes : (i : ℕ) → i < a .pixels * depthOf (a .bpp) .bytes → getD (a .slice) i 0 ≡ getD (b .slice) i 0

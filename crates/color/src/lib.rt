@@ -2,9 +2,9 @@
 //
 // What the functions promise is defined in specs/Colors.antt, Look.antt and SamePicture.antt.
 
+pub mod bytes;
 pub mod palette;
 pub mod pixel;
-pub mod read;
 pub mod same;
 
 pub use palette::Look;

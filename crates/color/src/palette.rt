@@ -1,8 +1,9 @@
 // Palettes: 256 triples of blue, green and red, in the first 768 bytes.
 ghost use mathlib.Core.Path.{_≡_};
-ghost use Rattle.color.specs.Colors.{paletteFits, sameTriple};
+ghost use Prim.Native.Nat.{_≤_, _<_};
+ghost use lib.ListN.{length};
+ghost use Rattle.color.specs.Colors.{entry, paletteFits, sameTriple};
 ghost use Rattle.color.specs.Look.{lowestIndex};
-use crate::read::pixel_at;
 
 pub enum Look {
     At(usize),
@@ -31,6 +32,14 @@ pub(crate) fn palette_fits(bpp: usize, palette: &[u8]) -> bool
     768 <= palette.len()
 }
 
+pub(crate) fn entry_at(palette: &[u8], i: usize) -> [u8; 3]
+    requires { ⌜ (768 ≤ length (now palette)) × (i < 256) ⌝ }
+    ensures { λ r. ⌜ r ≡ entry (now (palette .entry)) i ⌝ }
+{
+    let at = i * 3;
+    [palette[at], palette[at + 1], palette[at + 2]]
+}
+
 // The lowest index whose entry is the triple.
 pub fn palette_look(palette: &[u8], triple: [u8; 3]) -> Look
     ensures { λ r. ⌜ r ≡ lowestIndex (now (palette .entry)) triple ⌝ }
@@ -40,7 +49,7 @@ pub fn palette_look(palette: &[u8], triple: [u8; 3]) -> Look
     }
     let mut i: usize = 0;
     while i < 256 {
-        if same_triple(pixel_at(palette, 3, i), triple) {
+        if same_triple(entry_at(palette, i), triple) {
             return Look::At(i);
         }
         i += 1;

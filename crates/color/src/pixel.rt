@@ -5,8 +5,8 @@ ghost use Prim.Native.Nat.{_<_};
 ghost use Rattle.picture.specs.Outcomes.{refusalOf};
 ghost use Rattle.color.specs.Colors.{channel, expandWord, colorOf, paletteFits, expanded, expansionIn, giving, refusing};
 ghost use Rattle.color.specs.Contracts.{ChannelValues};
+use crate::palette::entry_at;
 use crate::palette::palette_fits;
-use crate::read::pixel_at;
 use base::widen;
 use picture::RleError;
 
@@ -55,7 +55,7 @@ pub(crate) fn color_of(pixel: [u8; 3], bpp: usize, palette: &[u8]) -> [u8; 3]
     ensures { λ r. ⌜ r ≡ colorOf (now (palette .entry)) bpp pixel ⌝ }
 {
     match bpp {
-        8 => pixel_at(palette, 3, widen(pixel[0])),
+        8 => entry_at(palette, widen(pixel[0])),
         15 => from_two_bytes(pixel, 32),
         16 => from_two_bytes(pixel, 64),
         _ => pixel,

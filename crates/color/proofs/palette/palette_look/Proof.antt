@@ -4,7 +4,6 @@ use Prim.Native.Nat.{_-_, _≤_}
 use mathlib.Core.Path.{_≡_, refl, sym, _∙_}
 use native.Mathlib.Omega.{arith}
 use borrow.Author.Tests.{le-leb, lt-leb}
-use Rattle.color.specs.Colors.{entry}
 use Rattle.color.specs.Look.{lowestFrom, lowestIndex}
 use Rattle.color.proofs.Lowest.{found, passed}
 use Rattle.color.proofs.palette.palette_look.Statement.{statement}
@@ -24,16 +23,15 @@ loop-holds : tie.Need-loop-holds Inv-loop μ-loop
 loop-holds c = (omega arith, refl)
 
 returns-2 : tie.Need-returns-2 Inv-loop μ-loop
-unfolding entry lowestIndex
+unfolding lowestIndex
 returns-2 c =
     rw (le-leb 768 _ (c .before .before .before .before .before .if1 .left))
-    (sym (found _ _ _ (omega arith) (c .before .before .pixel-at .ensures) (c .before .same-triple .ensures) (c .if2 .taken)) ∙ c .before .before .before .before .loop .inv .1)
+    (sym (found _ _ _ (omega arith) (c .before .before .entry-at .ensures) (c .before .same-triple .ensures) (c .if2 .taken)) ∙ c .before .before .before .before .loop .inv .1)
 
 loop-again : tie.Need-loop-again Inv-loop μ-loop
-unfolding entry
 loop-again c = (
   omega arith,
-  passed _ _ _ (omega arith) (c .before .before .pixel-at .ensures) (c .before .same-triple .ensures) (c .if2 .left) ∙ c .before .before .before .before .loop .inv .1,
+  passed _ _ _ (omega arith) (c .before .before .entry-at .ensures) (c .before .same-triple .ensures) (c .if2 .left) ∙ c .before .before .before .before .loop .inv .1,
 )
 
 returns-3 : tie.Need-returns-3 Inv-loop μ-loop

@@ -1,0 +1,76 @@
+-- Laws of the comparison of bytes: what one byte adds, and what a block says of all bytes. Assumes nothing.
+use mathlib.Core.Path.{_≡_, refl}
+use mathlib.Core.List.{List}
+use mathlib.Core.Bool.{Bool, true, false}
+use Prim.Native.Nat.{ℕ, _+_, _-_, _≤_, _<_}
+use native.Mathlib.Numerals.{add-one}
+use native.Mathlib.Omega.{arith}
+use lib.Bits.{bitAnd, bitOr, bitXor, and-le-l, and-le-r, or-add-and, xor-add-and, xor-self}
+use lib.Dec.{eqb}
+use lib.ListN.{getD, drop}
+use lib.Seq.{getD-drop}
+use borrow.Author.Tests.{eqb-true, eq-eqb}
+use Rattle.base.proofs.Tests.{by-less, both-true}
+use Rattle.color.specs.Colors.{both}
+use Rattle.color.specs.SamePicture.{everyBelow, sameBytes}
+use Rattle.color.proofs.Every.{clash, not-yes, same-test, every-passes, passes-every}
+
+-- ---- one byte more
+
+or-zero : (x y : ℕ) → bitOr x y ≡ 0 → (x ≡ 0) × (y ≡ 0)
+or-zero x y e = (omega (arith, e, or-add-and x y, and-le-r x y), omega (arith, e, or-add-and x y, and-le-l x y))
+
+xor-zero : (x y : ℕ) → bitXor x y ≡ 0 → x ≡ y
+xor-zero x y e = omega (arith, e, xor-add-and x y, and-le-l x y, and-le-r x y)
+
+-- the differences gathered so far are none exactly if they were none before and the next two bytes are the same
+gathered : (d x y : ℕ) → eqb (bitOr d (bitXor x y)) 0 ≡ both (eqb d 0) (eqb x y)
+gathered d x y =
+    same-test (eqb (bitOr d (bitXor x y)) 0) (both (eqb d 0) (eqb x y))
+    (λ h.
+    let z = or-zero d (bitXor x y) (eqb-true (bitOr d (bitXor x y)) 0 h) in
+    rw (eq-eqb d 0 (z .0)) (eq-eqb x y (xor-zero x y (z .1))))
+    (λ h.
+    let z = both-true (eqb d 0) (eqb x y) h in
+    rw (eqb-true d 0 (z .0), eqb-true x y (z .1), xor-self y) refl)
+
+module _ (xs ys : List ℕ) where
+  pub one-more : (at i d : ℕ) → eqb d 0 ≡ sameBytes (drop at xs) (drop at ys) i
+      → eqb (bitOr d (bitXor (getD xs (at + i) 0) (getD ys (at + i) 0))) 0 ≡ sameBytes (drop at xs) (drop at ys) (i + 1)
+  unfolding sameBytes everyBelow
+  one-more at i d e = rw (gathered d (getD xs (at + i) 0) (getD ys (at + i) 0), e, add-one i) (simp getD-drop)
+
+  -- ---- blocks
+
+  pub same-bytes : (n : ℕ) → sameBytes xs ys n ≡ true → (i : ℕ) → i < n → getD xs i 0 ≡ getD ys i 0
+  unfolding sameBytes
+  same-bytes n e i h = eqb-true (getD xs i 0) (getD ys i 0) (every-passes _ n e i h)
+
+  pub bytes-same : (n : ℕ) → ((i : ℕ) → i < n → getD xs i 0 ≡ getD ys i 0) → sameBytes xs ys n ≡ true
+  unfolding sameBytes
+  bytes-same n e = passes-every _ n (λ i h. eq-eqb (getD xs i 0) (getD ys i 0) (e i h))
+
+module _ (xs ys : List ℕ) (at m n : ℕ) where
+  -- the block of m bytes from a place on
+  abbrev sameBlock : Bool
+  sameBlock = sameBytes (drop at xs) (drop at ys) m
+
+  within : at + m ≤ n → sameBytes xs ys n ≡ true → sameBlock ≡ true
+  within h e =
+      bytes-same (drop at xs) (drop at ys) m (λ i l. rw (getD-drop, getD-drop) (same-bytes xs ys n e (at + i) (omega arith)))
+
+  pub block-differs : at + m ≤ n → sameBlock ≡ false → false ≡ sameBytes xs ys n
+  block-differs h e = not-yes (sameBytes xs ys n) (λ t. clash (within h t) e)
+
+  -- a block that starts where the bytes before it end, or earlier
+  module _ (k : ℕ) (before : sameBytes xs ys k ≡ true) (meet : at ≤ k) (end : at + m ≡ n) where
+    pub block-agrees : sameBlock ≡ true → sameBytes xs ys n ≡ true
+    block-agrees e =
+        bytes-same xs ys n (λ i h.
+        by-less i k (λ l. same-bytes xs ys k before i l)
+        (λ l.
+        let s : at + (i - at) ≡ i = omega arith in
+        rw (getD-drop, getD-drop, s) at (same-bytes (drop at xs) (drop at ys) m e (i - at) (omega arith))))
+
+    pub block-decides : sameBlock ≡ sameBytes xs ys n
+    block-decides = same-test sameBlock (sameBytes xs ys n) block-agrees (within (omega arith))

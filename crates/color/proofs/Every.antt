@@ -1,0 +1,33 @@
+-- Laws of a test that every number below n passes, and of two tests. Assumes nothing.
+use mathlib.Core.Path.{_≡_, refl, sym}
+use mathlib.Core.Bool.{Bool, true, false}
+use Prim.Native.Nat.{ℕ, zero, suc, _<_}
+use native.Mathlib.Omega.{arith}
+use Rattle.base.proofs.Tests.{before-or-last, apart, both-true}
+use Rattle.color.specs.SamePicture.{everyBelow}
+
+-- tests that say yes of each other
+pub same-test : (s t : Bool) → (s ≡ true → t ≡ true) → (t ≡ true → s ≡ true) → s ≡ t
+same-test true t f g = sym (f refl)
+same-test false true f g = g refl
+same-test false false f g = refl
+
+pub clash : {t : Bool} → t ≡ true → t ≡ false → ⊥
+clash e h = apart (cc (e, h))
+
+pub not-yes : (t : Bool) → (t ≡ true → ⊥) → false ≡ t
+not-yes true h = absurd (h refl)
+not-yes false h = refl
+
+module _ (test : ℕ → Bool) where
+  pub every-passes : (n : ℕ) → everyBelow n test ≡ true → (k : ℕ) → k < n → test k ≡ true
+  unfolding everyBelow
+  every-passes zero e k h = absurd (omega arith)
+  every-passes (suc n) e k h =
+      let s = both-true (everyBelow n test) (test n) e in
+      before-or-last k n h (λ l. every-passes n (s .0) k l) (λ i. rw i (s .1))
+
+  pub passes-every : (n : ℕ) → ((k : ℕ) → k < n → test k ≡ true) → everyBelow n test ≡ true
+  unfolding everyBelow
+  passes-every zero h = refl
+  passes-every (suc n) h = rw (passes-every n (λ k l. h k (omega arith))) (h n (omega arith))

@@ -1,0 +1,38 @@
+-- `same_block` meets its contract. The invariant: the gathered differences are none exactly if the bytes passed are the same. Assumes
+-- nothing.
+use borrow.Author.Needs.{needs}
+use Prim.Native.Nat.{_-_, _≤_}
+use mathlib.Core.Path.{_≡_, refl, _∙_}
+use native.Mathlib.Omega.{arith}
+use lib.Dec.{eqb}
+use lib.ListN.{drop}
+use Rattle.color.specs.SamePicture.{everyBelow, sameBytes}
+use Rattle.color.proofs.Blocks.{one-more}
+use Rattle.color.proofs.bytes.same_block.Statement.{statement}
+use Rattle.color.proofs.bytes.same_block.Tie as tie
+
+abbrev Inv-loop : tie.InvT-loop
+Inv-loop a b at n difference₀ i₀ difference i = (i ≤ n) × (eqb difference 0 ≡ sameBytes (drop at a) (drop at b) i)
+
+abbrev μ-loop : tie.MeasureT-loop
+μ-loop a b at n difference₀ i₀ difference i = n - i
+
+loop-holds : tie.Need-loop-holds Inv-loop μ-loop
+unfolding sameBytes everyBelow
+loop-holds c = (omega arith, refl)
+
+loop-again : tie.Need-loop-again Inv-loop μ-loop
+loop-again c =
+    let x = c .before .before .before .before .args in
+    let l = c .before .before .before .loop in
+    (omega arith, one-more (x .a .now) (x .b .now) (x .at) (l .i) (l .difference) (l .inv .1))
+
+returns : tie.Need-returns Inv-loop μ-loop
+returns c =
+    let e : c .before .loop .i ≡ c .before .before .args .n = omega arith in rw e at (c .before .loop .inv .1)
+
+pub same-block-spec : {M : Type 1} → statement M
+same-block-spec =
+    tie.close
+    (tie.spec Inv-loop μ-loop loop-holds (λ c. search needs) (λ c. search needs) (λ c. search needs) (λ c. search needs) (λ c. search needs)
+    (λ c. omega arith) loop-again returns)
