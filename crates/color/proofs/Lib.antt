@@ -4,5 +4,5 @@ pub mod Triples
 pub mod Lowest
 pub mod Every
 pub mod Blocks
-pub mod Painted
+pub mod Valid
 pub mod Meaning

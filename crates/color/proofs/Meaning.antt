@@ -18,7 +18,7 @@ use Rattle.color.specs.Colors.{both}
 use Rattle.color.specs.SamePicture.{Picture, Alike, valid, colorAt, sameBytes, sameColors, samePicture, sameStored}
 use Rattle.color.proofs.Blocks.{same-bytes, bytes-same}
 use Rattle.color.proofs.Every.{not-yes, same-test, passes-every}
-use Rattle.color.proofs.Painted.{valid-painted}
+use Rattle.color.proofs.Valid.{valid-painted}
 use Rattle.color.proofs.Triples.{equal-same}
 
 -- ---- the colors follow

@@ -1,5 +1,6 @@
 // Whether two pictures are the same.
 ghost use mathlib.Core.Path.{_≡_};
+ghost use Rattle.color.specs.Colors.{both};
 ghost use Rattle.color.specs.SamePicture.{samePicture, valid, pictureOf};
 use crate::bytes::same_bytes;
 use crate::palette::palette_fits;
@@ -32,15 +33,25 @@ pub(crate) fn is_valid(slice: &[u8], shape: Shape, palette: &[u8]) -> bool
     }
 }
 
+// Whether two slices with the same numbers are valid pictures. Where the first is, so is a second that is not shorter.
+pub(crate) fn both_valid(a: &[u8], b: &[u8], shape: Shape, palette: &[u8]) -> bool
+    ensures { λ r. ⌜ r ≡ both (valid (now (palette .entry)) (pictureOf (now (a .entry)) shape)) (valid (now (palette .entry)) (pictureOf (now (b .entry)) shape)) ⌝ }
+{
+    if !is_valid(a, shape, palette) {
+        return false;
+    }
+    if a.len() <= b.len() {
+        return true;
+    }
+    is_valid(b, shape, palette)
+}
+
 // Whether two pictures, a with the numbers p and b with q, are valid and the same. Pixels of one depth that are stored in the same bytes
 // have the same colors: no color is worked out.
 pub fn same_picture(a: &[u8], p: Shape, b: &[u8], q: Shape, palette: &[u8]) -> bool
     ensures { λ r. ⌜ r ≡ samePicture (now (palette .entry)) (pictureOf (now (a .entry)) p) (pictureOf (now (b .entry)) q) ⌝ }
 {
-    if !is_valid(a, p, palette) {
-        return false;
-    }
-    if !is_valid(b, q, palette) {
+    if p.bpp != q.bpp {
         return false;
     }
     if p.width != q.width {
@@ -52,7 +63,7 @@ pub fn same_picture(a: &[u8], p: Shape, b: &[u8], q: Shape, palette: &[u8]) -> b
     if p.pixels != q.pixels {
         return false;
     }
-    if p.bpp != q.bpp {
+    if !both_valid(a, b, p, palette) {
         return false;
     }
     same_bytes(a, b, p.pixels * picture::bytes_per_pixel(p.bpp))

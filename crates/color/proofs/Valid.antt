@@ -1,27 +1,23 @@
--- What a valid picture has: a depth of the table, and its painted pixels. Assumes nothing.
-use mathlib.Core.Path.{_≡_, refl, sym, _∙_}
+-- Laws of valid pictures: they have a depth of the table and their painted pixels, and a longer slice is valid too. Assumes nothing.
+use mathlib.Core.Path.{_≡_, refl}
 use mathlib.Core.List.{List}
-use mathlib.Core.Bool.{Bool, true, false}
-use Prim.Native.Nat.{ℕ, _+_, _*_, _≤_, _<_}
+use mathlib.Core.Bool.{true}
+use Prim.Native.Nat.{ℕ, _*_, _≤_, _<_}
 use native.Mathlib.Nat.{mul-le-mul-right}
 use native.Mathlib.Omega.{arith}
-use lib.Dec.{eqb, leb}
-use lib.ListN.{length, getD, drop}
-use lib.Seq.{getD-drop}
-use borrow.Author.Tests.{eqb-true, leb-true}
-use Rattle.base.proofs.Tests.{apart, both-true}
-use Rattle.picture.specs.Pixels.{pixelAt, firstPixel}
+use lib.Dec.{leb}
+use lib.ListN.{length}
+use borrow.Author.Tests.{leb-true, le-leb}
+use Rattle.base.proofs.Tests.{apart}
 use Rattle.picture.specs.Sizes.{checked, depthIndex, depthOf, Size, bytes, refused, sizeOf, hasSpace}
-use Rattle.picture.proofs.Depths.{depth-good}
-use Rattle.picture.proofs.Pixels.{first-pixel-cong}
 use Rattle.picture.proofs.Sizes.{sized, few-bytes}
-use Rattle.color.specs.Colors.{both, paletteFits}
-use Rattle.color.specs.SamePicture.{Picture, valid, colorAt, sameBytes, sameColors, sameStored}
-use Rattle.color.proofs.Blocks.{same-bytes}
-use Rattle.color.proofs.Every.{passes-every}
-use Rattle.color.proofs.Triples.{all-true, equal-same}
+use Rattle.color.specs.Colors.{paletteFits}
+use Rattle.color.specs.SamePicture.{Picture, picture, valid}
+use Rattle.color.proofs.Triples.{all-true}
 
--- its depth is one of the table, and its painted pixels are in its slice
+-- ---- the painted pixels
+
+-- the depth is one of the table, and the painted pixels are in the slice
 pub record Painted (p : Picture) : Type 0 where
   pub depth : depthIndex (p .bpp) < 4
   pub within : p .pixels * depthOf (p .bpp) .bytes ≤ length (p .slice)
@@ -47,3 +43,18 @@ module _ (palette : List ℕ) (p : Picture) where
       let size = sizeOf (checked (p .bpp) (p .width) (p .height)) in
       let h = all-true (hasSpace (length (p .slice)) size) (leb (p .pixels) (p .width * p .height)) (paletteFits (p .bpp) palette) e in
       in-size size refl (h .0) (leb-true (p .pixels) (p .width * p .height) (h .1))
+
+-- ---- a longer slice
+
+more-space : (few more : ℕ) → few ≤ more → (z : Size) → hasSpace few z ≡ true → hasSpace more z ≡ true
+unfolding hasSpace
+more-space few more h (refused r) e = e
+more-space few more h (bytes n) e = le-leb n more (omega (arith, leb-true n few e))
+
+pub longer-valid : (palette xs ys : List ℕ) (n w h bpp : ℕ) → length xs ≤ length ys → valid palette (picture xs n w h bpp) ≡ true
+    → valid palette (picture ys n w h bpp) ≡ true
+unfolding valid
+longer-valid palette xs ys n w h bpp l e =
+    let size = sizeOf (checked bpp w h) in
+    let t = all-true (hasSpace (length xs) size) (leb n (w * h)) (paletteFits bpp palette) e in
+    rw (more-space (length xs) (length ys) l size (t .0), t .1) (t .2)
