@@ -1,6 +1,6 @@
 -- `samePicture` says yes exactly if the pictures are alike: their depths and stored bytes decide, and the colors follow. Assumes nothing.
 use mathlib.Core.Path.{_≡_, refl}
-use mathlib.Core.List.{List}
+use mathlib.Core.List.{List, [], _∷_}
 use mathlib.Core.Bool.{true, false}
 use Prim.Native.Nat.{ℕ, _+_, _*_, _≤_, _<_}
 use native.Mathlib.Nat.{mul-le-mul-right}
@@ -10,16 +10,31 @@ use lib.ListN.{getD, drop}
 use lib.Seq.{getD-drop}
 use borrow.Author.Tests.{eqb-true, eq-eqb}
 use Rattle.base.proofs.Tests.{both-true}
-use Rattle.picture.specs.Pixels.{pixelAt}
-use Rattle.picture.specs.Sizes.{depthOf}
+use Rattle.picture.specs.Pixels.{pixelAt, firstPixel}
+use Rattle.picture.specs.Sizes.{depths, depthIndex, depthOf, accept, checked, sizeOf, hasSpace}
 use Rattle.picture.proofs.Depths.{depth-good}
 use Rattle.picture.proofs.Pixels.{first-pixel-cong}
-use Rattle.color.specs.Colors.{both}
-use Rattle.color.specs.SamePicture.{Picture, Alike, valid, colorAt, sameBytes, sameColors, samePicture, sameStored}
+use Rattle.color.specs.Colors.{both, channel, colorOf, expandWord, paletteFits, sameTriple, word}
+use Rattle.color.specs.SamePicture.{Picture, Alike, picture, valid, colorAt, everyBelow, sameBytes, sameColors, samePicture, sameStored}
 use Rattle.color.proofs.Blocks.{same-bytes, bytes-same}
 use Rattle.color.proofs.Every.{not-yes, same-test, passes-every}
 use Rattle.color.proofs.Valid.{valid-painted}
 use Rattle.color.proofs.Triples.{equal-same}
+
+-- ---- by computing
+
+-- a picture of two pixels in a row, of two bytes each, with so many of them painted
+abbrev two : List ℕ → ℕ → ℕ → Picture
+two xs n bpp = picture xs n 2 1 bpp
+
+-- not the same: the spare bit of a painted pixel, other bits per pixel, also with nothing painted. The same: a pixel that is not painted
+pub stored-computed :
+    (samePicture [] (two (0x1F ∷ 0 ∷ 0 ∷ 0 ∷ []) 1 15) (two (0x1F ∷ 0x80 ∷ 0 ∷ 0 ∷ []) 1 15) ≡ false)
+    × (samePicture [] (two (0 ∷ 0 ∷ 0 ∷ 0 ∷ []) 1 15) (two (0 ∷ 0 ∷ 0 ∷ 0 ∷ []) 1 16) ≡ false)
+    × (samePicture [] (two (0 ∷ 0 ∷ 0 ∷ 0 ∷ []) 0 15) (two (0 ∷ 0 ∷ 0 ∷ 0 ∷ []) 0 16) ≡ false)
+    × (samePicture [] (two (0x1F ∷ 0 ∷ 0 ∷ 0 ∷ []) 1 15) (two (0x1F ∷ 0 ∷ 7 ∷ 0 ∷ []) 1 15) ≡ true)
+unfolding samePicture sameStored sameBytes sameColors everyBelow valid hasSpace sizeOf checked accept depthIndex depthOf depths colorAt colorOf expandWord word channel pixelAt firstPixel paletteFits sameTriple
+stored-computed = (refl, refl, refl, refl)
 
 -- ---- the colors follow
 
