@@ -75,16 +75,17 @@ static void colors() {
              NULAMBIRO_NO_ENTRY,
          "nulambiro_palette_look for a color that is not there");
 
-  // One painted pixel of 1 x 2, the index 7 and the color of that entry.
-  const uint8_t index[2] = {7, 0}, color[6] = {10, 20, 30, 1, 1, 1};
-  expect(nulambiro_same_picture(index, sizeof index, 1, 1, 2, 8, color,
-                                sizeof color, 1, 1, 2, 24, palette,
-                                sizeof palette) == 1,
-         "nulambiro_same_picture");
-  expect(nulambiro_same_picture(index, sizeof index, 2, 1, 2, 8, color,
-                                sizeof color, 2, 1, 2, 24, palette,
-                                sizeof palette) == 0,
-         "nulambiro_same_picture for another pixel");
+  // Two pixels of 15 bits, one of them painted. The others differ in the byte
+  // after it, and in its top bit.
+  const uint8_t pixels[4] = {0x1f, 0x7c, 1, 1}, past[4] = {0x1f, 0x7c, 2, 1},
+                marked[4] = {0x1f, 0xfc, 1, 1};
+  const auto same = [&pixels](const uint8_t(&other)[4], size_t bpp) {
+    return nulambiro_same_picture(pixels, sizeof pixels, 1, 2, 1, 15, other,
+                                  sizeof other, 1, 2, 1, bpp, nullptr, 0);
+  };
+  expect(same(past, 15) == 1, "nulambiro_same_picture");
+  expect(same(marked, 15) == 0, "nulambiro_same_picture for another top bit");
+  expect(same(pixels, 16) == 0, "nulambiro_same_picture at other bits");
 }
 
 static void rows() {

@@ -1,6 +1,6 @@
-//! Times same picture and the expansion of a whole picture by the package, which is one C call for
-//! each picture or pixel, beside plain Rust loops over the same pictures. Only the ratios within
-//! one run mean something: above 1, the library is faster.
+//! Times same picture beside `memcmp` of the C library, and the expansion of a whole picture, which
+//! is one C call for each pixel, beside a plain Rust loop. Only the ratios within one run mean
+//! something: above 1, the library is faster.
 //!
 //! Argument: the number of rounds; the best one counts. `bench/run colors` builds and calls it.
 
@@ -8,10 +8,21 @@ mod common;
 
 use common::{fastest, rounds, Random, DEPTHS};
 use nulambiro::{expand, same_picture, Picture};
+use std::ffi::c_int;
 use std::hint::black_box;
 
 const SIDE: usize = 2048;
 const PIXELS: usize = SIDE * SIDE;
+
+extern "C" {
+    fn memcmp(a: *const u8, b: *const u8, len: usize) -> c_int;
+}
+
+fn same_by_memcmp(a: &[u8], b: &[u8]) -> bool {
+    assert_eq!(a.len(), b.len());
+    // SAFETY: both slices are readable for this length.
+    unsafe { memcmp(a.as_ptr(), b.as_ptr(), a.len()) == 0 }
+}
 
 /// The plain rule, a pixel at a time.
 fn color(pixel: &[u8], bpp: usize, palette: &[u8]) -> [u8; 3] {
@@ -49,10 +60,6 @@ fn color_at(picture: &Picture, palette: &[u8], k: usize) -> [u8; 3] {
     }
 }
 
-fn plain_same(a: &Picture, b: &Picture, palette: &[u8]) -> bool {
-    (0..PIXELS).all(|k| color_at(a, palette, k) == color_at(b, palette, k))
-}
-
 fn plain_expand(picture: &Picture, palette: &[u8], canvas: &mut [u8]) {
     for (k, to) in canvas.chunks_exact_mut(3).enumerate() {
         to.copy_from_slice(&color_at(picture, palette, k));
@@ -68,81 +75,68 @@ fn library_expand(picture: &Picture, size: usize, palette: &[u8], canvas: &mut [
     }
 }
 
-/// A color that pixels at 15 and 16 bpp can have too, so that pictures agree to the end. Green has
-/// three high bits alike: its byte is then the same from five bits and from six.
-fn common_color(random: &mut Random) -> [u8; 3] {
-    let greens = [0, 1, 2, 3, 28, 29, 30, 31];
-    [
-        five_bits(random.below(32) as u16),
-        five_bits(random.pick(&greens)),
-        five_bits(random.below(32) as u16),
-    ]
-}
-
-/// One picture at each depth, all of the same colors.
-fn pictures(indices: &[u8], palette: &[u8]) -> [Vec<u8>; 4] {
-    let colors = || indices.iter().map(|index| color(&[*index], 8, palette));
-    let word = |color: [u8; 3], green_bits: u32| {
-        let [b, g, r] = color.map(u16::from);
-        (b >> 3 | g >> (8 - green_bits) << 5 | r >> 3 << (5 + green_bits)).to_le_bytes()
-    };
-    [
-        indices.to_vec(),
-        colors().flat_map(|c| word(c, 5)).collect(),
-        colors().flat_map(|c| word(c, 6)).collect(),
-        colors().flatten().collect(),
-    ]
-}
-
-fn show(what: &str, [plain, library]: [f64; 2]) {
-    let nanoseconds = |seconds: f64| seconds / PIXELS as f64 * 1e9;
-    println!(
-        "{what:<24} {:>7.2} ns a pixel, plain Rust {:>6.2}, ratio {:>5.2}",
-        nanoseconds(library),
-        nanoseconds(plain),
-        plain / library
-    );
-}
-
-fn time_same(pictures: &[Picture], palette: &[u8], rounds: usize) {
-    println!("same picture, {SIDE} x {SIDE}");
-    for (i, a) in pictures.iter().enumerate() {
-        for b in &pictures[i..] {
-            let times = fastest(
-                rounds,
-                || assert!(plain_same(black_box(a), black_box(b), palette)),
-                || assert!(same_picture(black_box(a), black_box(b), palette)),
-            );
-            show(&format!("{} and {} bpp", a.bpp, b.bpp), times);
-        }
+/// A whole picture of so many pixels on a side.
+fn square(bytes: &[u8], side: usize, bpp: usize) -> Picture<'_> {
+    Picture {
+        bytes,
+        pixels: side * side,
+        width: side,
+        height: side,
+        bpp,
     }
 }
 
-fn time_expansion(pictures: &[Picture], palette: &[u8], rounds: usize) {
-    println!("expansion, a call for each pixel, {SIDE} x {SIDE}");
-    let (mut plain, mut library) = (vec![0; 3 * PIXELS], vec![0; 3 * PIXELS]);
-    for (picture, (bpp, size)) in pictures.iter().zip(DEPTHS) {
+/// Prints the times of so many calls or pixels.
+fn show(bpp: usize, what: &str, count: usize, [other, library]: [f64; 2]) {
+    let nanoseconds = |seconds: f64| seconds / count as f64 * 1e9;
+    println!(
+        "{bpp:>2} bpp {:>12.2} ns a {what}, the other {:>12.2}, ratio {:>5.2}",
+        nanoseconds(library),
+        nanoseconds(other),
+        other / library
+    );
+}
+
+/// Times pictures of equal bytes, of so many pixels on a side.
+fn time_same(side: usize, bytes: &[Vec<u8>; 4], palette: &[u8], rounds: usize) {
+    println!("same picture beside memcmp, {side} x {side}, equal");
+    // Small ones take too little time for one call.
+    let calls = (PIXELS / (side * side)).min(100_000);
+    for (bytes, (bpp, size)) in bytes.iter().zip(DEPTHS) {
+        let bytes = &bytes[..side * side * size];
+        let copy = bytes.to_vec();
+        let (a, b) = (square(bytes, side, bpp), square(&copy, side, bpp));
+        let repeat = |same: &dyn Fn() -> bool| (0..calls).for_each(|_| assert!(same()));
         let times = fastest(
             rounds,
-            || plain_expand(black_box(picture), palette, &mut plain),
-            || library_expand(black_box(picture), size, palette, &mut library),
+            || repeat(&|| same_by_memcmp(black_box(a.bytes), black_box(b.bytes))),
+            || repeat(&|| same_picture(black_box(&a), black_box(&b), palette)),
+        );
+        show(bpp, "call", calls, times);
+    }
+}
+
+fn time_expansion(bytes: &[Vec<u8>; 4], palette: &[u8], rounds: usize) {
+    println!("expansion beside a plain loop, a call for each pixel, {SIDE} x {SIDE}");
+    let (mut plain, mut library) = (vec![0; 3 * PIXELS], vec![0; 3 * PIXELS]);
+    for (bytes, (bpp, size)) in bytes.iter().zip(DEPTHS) {
+        let picture = square(bytes, SIDE, bpp);
+        let times = fastest(
+            rounds,
+            || plain_expand(black_box(&picture), palette, &mut plain),
+            || library_expand(black_box(&picture), size, palette, &mut library),
         );
         assert!(plain == library, "the expansions differ at {bpp} bpp");
-        show(&format!("{bpp} bpp"), times);
+        show(bpp, "pixel", PIXELS, times);
     }
 }
 
 fn main() {
     let (rounds, mut random) = (rounds(), Random::new(1));
-    let palette: Vec<u8> = (0..256).flat_map(|_| common_color(&mut random)).collect();
-    let bytes = pictures(&random.bytes(PIXELS), &palette);
-    let pictures = [0, 1, 2, 3].map(|i| Picture {
-        bytes: &bytes[i],
-        pixels: PIXELS,
-        width: SIDE,
-        height: SIDE,
-        bpp: DEPTHS[i].0,
-    });
-    time_same(&pictures, &palette, rounds);
-    time_expansion(&pictures, &palette, rounds);
+    let palette = random.bytes(768);
+    let bytes = DEPTHS.map(|(_, size)| random.bytes(size * PIXELS));
+    for side in [1, 8, 64, SIDE] {
+        time_same(side, &bytes, &palette, rounds);
+    }
+    time_expansion(&bytes, &palette, rounds);
 }

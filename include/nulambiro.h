@@ -172,11 +172,14 @@ size_t nulambiro_palette_look(const uint8_t *palette, size_t palette_len,
                               uint8_t blue, uint8_t green, uint8_t red);
 
 /*
- * Returns 1 if two pictures look the same, else 0. Their depths may differ.
+ * Returns 1 if two pictures are the same, else 0.
  *
- * They look the same exactly if both are valid and their widths, heights,
- * pixel counts and the colors (see nulambiro_expand) of all painted pixels,
- * the first a_pixels and b_pixels of them, agree. A picture is valid if
+ * They are the same exactly if both are valid, their bits per pixel, widths,
+ * heights and pixel counts agree, and so do the stored bytes of all painted
+ * pixels, the first a_pixels and b_pixels of them. Every bit of these bytes
+ * counts, also the top bit at 15 bpp, which has no color. Painted pixels of
+ * the same pictures have the same colors (see nulambiro_expand), but pictures
+ * with the same colors need not be the same. A picture is valid if
  * - bpp is 8, 15, 16 or 24, and width and height are 1 to
  *   NULAMBIRO_MAX_SIDE,
  * - its length is at least the whole picture's, width * height pixels (see

@@ -68,20 +68,24 @@ pub struct Picture<'a> {
     pub bpp: usize,
 }
 
-/// Returns whether two pictures look the same, also at different depths.
+/// Returns whether two pictures are the same.
 ///
-/// That is so exactly if both are valid, and their widths, heights, pixel counts and the colors of
-/// all painted pixels agree. A picture is valid if its depth and sizes are good, its slice has
-/// space for the whole picture, at most width × height pixels are painted, and at 8 `bpp` the
-/// palette has at least 768 bytes.
+/// That is so exactly if both are valid, their bits per pixel, widths, heights and pixel counts
+/// agree, and so do the stored bytes of all painted pixels. Every bit of these bytes counts, also
+/// the top bit at 15 `bpp`, which has no color. Painted pixels of the same pictures have the same
+/// colors, but pictures with the same colors need not be the same. A picture is valid if its depth
+/// and sizes are good, its slice has space for the whole picture, at most width × height pixels are
+/// painted, and at 8 `bpp` the palette has at least 768 bytes.
 ///
 /// ```
 /// use nulambiro::{same_picture, Picture};
 ///
-/// let at_15 = Picture { bytes: &[0x1F, 0x00], pixels: 1, width: 1, height: 1, bpp: 15 };
-/// let at_24 = Picture { bytes: &[255, 0, 0], bpp: 24, ..at_15 };
-/// assert!(same_picture(&at_15, &at_24, &[]));
-/// assert!(!same_picture(&at_15, &Picture { pixels: 0, ..at_24 }, &[]));
+/// // Of two pixels, the first is painted.
+/// let blue = Picture { bytes: &[0x1F, 0x00, 1, 1], pixels: 1, width: 2, height: 1, bpp: 15 };
+/// assert!(same_picture(&blue, &Picture { bytes: &[0x1F, 0x00, 2, 2], ..blue }, &[]));
+/// // The top bit has no color, and counts.
+/// assert!(!same_picture(&blue, &Picture { bytes: &[0x1F, 0x80, 1, 1], ..blue }, &[]));
+/// assert!(!same_picture(&blue, &Picture { bpp: 16, ..blue }, &[]));
 /// ```
 #[must_use]
 pub fn same_picture(a: &Picture, b: &Picture, palette: &[u8]) -> bool {

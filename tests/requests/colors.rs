@@ -11,11 +11,7 @@ use crate::stop;
 pub fn expand(case: &Block) -> Answer {
     let bpp = case.number("bpp");
     let color = nulambiro::expand(three(case, "pixel"), bpp, &case.bytes("palette"));
-    let masks = match (case.find("rule"), bpp) {
-        (Some("base"), 15) => [0xF8, 0xF8, 0xF8],
-        (Some("base"), 16) => [0xF8, 0xFC, 0xF8],
-        _ => [0xFF; 3],
-    };
+    let masks = own_bits(case.find("rule"), bpp);
     let triple = match &color {
         Ok(color) => hex(&[0, 1, 2].map(|i| color[i] & masks[i])),
         Err(_) => String::from("none"),
@@ -23,6 +19,16 @@ pub fn expand(case: &Block) -> Answer {
     Answer {
         text: refusal(color.as_ref().err()) + &format!("triple={triple}\n"),
         in_part: masks != [0xFF; 3],
+    }
+}
+
+/// The bits of a color to compare: where the rule is that of the base, those that come from the
+/// pixel itself.
+pub(crate) fn own_bits(rule: Option<&str>, bpp: usize) -> [u8; 3] {
+    match (rule, bpp) {
+        (Some("base"), 15) => [0xF8, 0xF8, 0xF8],
+        (Some("base"), 16) => [0xF8, 0xFC, 0xF8],
+        _ => [0xFF; 3],
     }
 }
 

@@ -7,6 +7,7 @@
 mod answers;
 mod block;
 mod colors;
+mod same;
 
 use answers::Answer;
 use block::Block;
@@ -15,8 +16,11 @@ use std::process::exit;
 use std::{env, fs};
 
 /// The files of a folder, with what answers a case of each.
-const FILES: [(&str, fn(&Block) -> Answer); 2] =
-    [("02-expand", colors::expand), ("05-look", colors::look)];
+const FILES: [(&str, fn(&Block) -> Answer); 3] = [
+    ("02-expand", colors::expand),
+    ("05-look", colors::look),
+    ("08-same", same::same),
+];
 
 fn main() {
     let Some(folder) = env::args().nth(1) else {

@@ -1,8 +1,26 @@
 //! Expansion of one pixel.
 
-use crate::color;
 use crate::random::Random;
 use nulambiro::{expand, Refusal};
+
+/// The rule of expansion: bits out of the pixel's number, and below them the highest ones again.
+fn color(pixel: &[u8], bpp: usize, palette: &[u8]) -> [u8; 3] {
+    let channel = |number: u32, from: u32, bits: u32| {
+        let c = (number >> from) & ((1 << bits) - 1);
+        (c << (8 - bits) | c >> (2 * bits - 8)) as u8
+    };
+    let number = || u32::from(pixel[0]) | u32::from(pixel[1]) << 8;
+    match bpp {
+        8 => {
+            let entry = palette.chunks(3).nth(usize::from(pixel[0])).unwrap();
+            [entry[0], entry[1], entry[2]]
+        }
+        15 => [(0, 5), (5, 5), (10, 5)].map(|(from, bits)| channel(number(), from, bits)),
+        16 => [(0, 5), (5, 6), (11, 5)].map(|(from, bits)| channel(number(), from, bits)),
+        24 => [pixel[0], pixel[1], pixel[2]],
+        _ => panic!("no depth of {bpp} bits"),
+    }
+}
 
 #[test]
 fn all_pixels_of_two_bytes_follow_the_rule() {
