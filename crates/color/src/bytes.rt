@@ -1,5 +1,5 @@
-// Comparison of bytes. A loop that leaves at the first difference goes byte by byte; one that gathers the differences of a block is
-// compiled to vector instructions, so that it is only left between blocks.
+// Comparison of bytes. A loop that may leave at any byte is compiled byte by byte, one that gathers the differences of a block to vector
+// instructions: so differences are looked at between blocks.
 ghost use mathlib.Core.Path.{_≡_};
 ghost use Prim.Native.Nat.{_+_, _≤_};
 ghost use lib.ListN.{length, drop};
@@ -13,14 +13,14 @@ pub(crate) fn same_block(a: &[u8], b: &[u8], at: usize, n: usize) -> bool
     let mut difference: u8 = 0;
     let mut i: usize = 0;
     while i < n {
-        difference = difference | (a[at + i] ^ b[at + i]);
+        difference |= a[at + i] ^ b[at + i];
         i += 1;
     }
     difference == 0
 }
 
-// Whether the first n bytes are the same, by blocks of so many. The last block ends with byte n, also where it then covers bytes of the
-// block before.
+// Whether the first n bytes are the same, by blocks of so many. The last block ends where the n bytes end, and may start inside the one
+// before it.
 pub(crate) fn same_in_blocks(a: &[u8], b: &[u8], n: usize, block: usize) -> bool
     requires { ⌜ (1 ≤ block) × (block ≤ n) × (n ≤ length (now a)) × (n ≤ length (now b)) ⌝ }
     ensures { λ r. ⌜ r ≡ sameBytes (now (a .entry)) (now (b .entry)) n ⌝ }
