@@ -35,6 +35,10 @@ gathered d x y =
     rw (eqb-true d 0 (z .0), eqb-true x y (z .1), xor-self y) refl)
 
 module _ (xs ys : List ℕ) where
+  pub no-bytes : sameBytes xs ys 0 ≡ true
+  unfolding sameBytes everyBelow
+  no-bytes = refl
+
   pub one-more : (at i d : ℕ) → eqb d 0 ≡ sameBytes (drop at xs) (drop at ys) i
       → eqb (bitOr d (bitXor (getD xs (at + i) 0) (getD ys (at + i) 0))) 0 ≡ sameBytes (drop at xs) (drop at ys) (i + 1)
   unfolding sameBytes everyBelow

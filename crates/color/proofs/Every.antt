@@ -6,7 +6,7 @@ use native.Mathlib.Omega.{arith}
 use Rattle.base.proofs.Tests.{before-or-last, apart, both-true}
 use Rattle.color.specs.SamePicture.{everyBelow}
 
--- tests that say yes of each other
+-- two tests, each of which holds where the other does
 pub same-test : (s t : Bool) → (s ≡ true → t ≡ true) → (t ≡ true → s ≡ true) → s ≡ t
 same-test true t f g = sym (f refl)
 same-test false true f g = g refl

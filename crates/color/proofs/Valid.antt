@@ -1,4 +1,4 @@
--- Laws of valid pictures: they have a depth of the table and their painted pixels, and a longer slice is valid too. Assumes nothing.
+-- Laws of valid pictures: they have a depth of the table and their painted pixels, and stay valid with a longer slice. Assumes nothing.
 use mathlib.Core.Path.{_≡_, refl}
 use mathlib.Core.List.{List}
 use mathlib.Core.Bool.{true}

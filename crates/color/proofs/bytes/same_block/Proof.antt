@@ -2,12 +2,12 @@
 -- nothing.
 use borrow.Author.Needs.{needs}
 use Prim.Native.Nat.{_-_, _≤_}
-use mathlib.Core.Path.{_≡_, refl}
+use mathlib.Core.Path.{_≡_, sym}
 use native.Mathlib.Omega.{arith}
 use lib.Dec.{eqb}
 use lib.ListN.{drop}
-use Rattle.color.specs.SamePicture.{everyBelow, sameBytes}
-use Rattle.color.proofs.Blocks.{one-more}
+use Rattle.color.specs.SamePicture.{sameBytes}
+use Rattle.color.proofs.Blocks.{no-bytes, one-more}
 use Rattle.color.proofs.bytes.same_block.Statement.{statement}
 use Rattle.color.proofs.bytes.same_block.Tie as tie
 
@@ -18,8 +18,7 @@ abbrev μ-loop : tie.MeasureT-loop
 μ-loop a b at n difference₀ i₀ difference i = n - i
 
 loop-holds : tie.Need-loop-holds Inv-loop μ-loop
-unfolding sameBytes everyBelow
-loop-holds c = (omega arith, refl)
+loop-holds c = (omega arith, sym (no-bytes _ _))
 
 loop-again : tie.Need-loop-again Inv-loop μ-loop
 loop-again c =

@@ -5,8 +5,8 @@ use mathlib.Core.Path.{_≡_, refl, sym, _∙_}
 use mathlib.Core.Bool.{true}
 use native.Mathlib.Omega.{arith}
 use borrow.Author.Tests.{not-true, not-false}
-use Rattle.color.specs.SamePicture.{everyBelow, sameBytes}
-use Rattle.color.proofs.Blocks.{block-differs, block-agrees, block-decides}
+use Rattle.color.specs.SamePicture.{sameBytes}
+use Rattle.color.proofs.Blocks.{no-bytes, block-differs, block-agrees, block-decides}
 use Rattle.color.proofs.bytes.same_in_blocks.Statement.{statement}
 use Rattle.color.proofs.bytes.same_in_blocks.Tie as tie
 
@@ -17,8 +17,7 @@ abbrev μ-loop : tie.MeasureT-loop
 μ-loop a b n block last at₀ at = n - at
 
 loop-holds : tie.Need-loop-holds Inv-loop μ-loop
-unfolding sameBytes everyBelow
-loop-holds c = (omega arith, refl)
+loop-holds c = (omega arith, no-bytes _ _)
 
 returns : tie.Need-returns Inv-loop μ-loop
 returns c =
