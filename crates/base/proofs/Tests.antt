@@ -1,5 +1,5 @@
--- Laws of tests: what holds by each way of a choice or of the order of two numbers, what two tests that hold together say, and what two
--- constructors that differ say. Assumes nothing.
+-- Laws of tests: what holds by each way of a choice or of the order of two numbers, what two tests that hold together say, and that no test
+-- holds and fails and no two constructors that differ are equal. Assumes nothing.
 use mathlib.Core.Path.{_≡_, refl}
 use mathlib.Core.Bool.{Bool, true, false}
 use Prim.Native.Nat.{ℕ, suc, _<_, _≤_}
@@ -22,6 +22,9 @@ before-or-last k n h f g = by-less k n f (λ l. g (omega arith))
 -- what is so by `cc` where two constructors that differ are equal
 pub apart : {A : Type 0} → _≡_ {A = ℕ} 0 1 → A
 apart e = absurd (omega arith)
+
+pub clash : {A : Type 0} {t : Bool} → t ≡ true → t ≡ false → A
+clash e f = apart cc
 
 pub both-true : (a b : Bool) → pick a b false ≡ true → (a ≡ true) × (b ≡ true)
 both-true true b e = (refl, e)

@@ -10,10 +10,10 @@ use lib.Dec.{eqb}
 use lib.ListN.{getD, drop}
 use lib.Seq.{getD-drop}
 use borrow.Author.Tests.{eqb-true, eq-eqb}
-use Rattle.base.proofs.Tests.{by-less, both-true}
+use Rattle.base.proofs.Tests.{by-less, clash, both-true}
 use Rattle.color.specs.Colors.{both}
 use Rattle.color.specs.SamePicture.{everyBelow, sameBytes}
-use Rattle.color.proofs.Every.{clash, not-yes, same-test, every-passes, passes-every}
+use Rattle.color.proofs.Every.{not-yes, same-test, every-passes, passes-every}
 
 -- ---- one byte more
 

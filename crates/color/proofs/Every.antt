@@ -3,7 +3,7 @@ use mathlib.Core.Path.{_≡_, refl, sym}
 use mathlib.Core.Bool.{Bool, true, false}
 use Prim.Native.Nat.{ℕ, zero, suc, _<_}
 use native.Mathlib.Omega.{arith}
-use Rattle.base.proofs.Tests.{before-or-last, apart, both-true}
+use Rattle.base.proofs.Tests.{before-or-last, both-true}
 use Rattle.color.specs.SamePicture.{everyBelow}
 
 -- two tests, each of which holds where the other does
@@ -11,9 +11,6 @@ pub same-test : (s t : Bool) → (s ≡ true → t ≡ true) → (t ≡ true →
 same-test true t f g = sym (f refl)
 same-test false true f g = g refl
 same-test false false f g = refl
-
-pub clash : {t : Bool} → t ≡ true → t ≡ false → ⊥
-clash e h = apart (cc (e, h))
 
 pub not-yes : (t : Bool) → (t ≡ true → ⊥) → false ≡ t
 not-yes true h = absurd (h refl)

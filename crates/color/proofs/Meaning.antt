@@ -6,14 +6,13 @@ use Prim.Native.Nat.{ℕ, _+_, _*_, _≤_, _<_}
 use native.Mathlib.Nat.{mul-le-mul-right}
 use native.Mathlib.Omega.{arith}
 use lib.Dec.{eqb}
-use lib.ListN.{getD, drop}
-use lib.Seq.{getD-drop}
+use lib.ListN.{getD}
 use borrow.Author.Tests.{eqb-true, eq-eqb}
 use Rattle.base.proofs.Tests.{both-true}
 use Rattle.picture.specs.Pixels.{pixelAt, firstPixel}
 use Rattle.picture.specs.Sizes.{depths, depthIndex, depthOf, accept, checked, sizeOf, hasSpace}
 use Rattle.picture.proofs.Depths.{depth-good}
-use Rattle.picture.proofs.Pixels.{first-pixel-cong}
+use Rattle.picture.proofs.Pixels.{pixelAt-cong}
 use Rattle.color.specs.Colors.{both, channel, colorOf, expandWord, paletteFits, sameTriple, word}
 use Rattle.color.specs.SamePicture.{Picture, Alike, picture, valid, colorAt, everyBelow, sameBytes, sameColors, samePicture, sameStored}
 use Rattle.color.proofs.Blocks.{same-bytes, bytes-same}
@@ -38,12 +37,10 @@ stored-computed = (refl, refl, refl, refl)
 
 -- ---- the colors follow
 
-module _ (xs ys : List ℕ) (D n : ℕ) (low : 1 ≤ D) (same : (i : ℕ) → i < n * D → getD xs i 0 ≡ getD ys i 0) where
-  same-pixel : (k : ℕ) → k < n → pixelAt D xs k ≡ pixelAt D ys k
-  unfolding pixelAt
-  same-pixel k h =
-      let all : (k + 1) * D ≤ n * D = mul-le-mul-right D (omega arith) in
-      first-pixel-cong D (drop (k * D) xs) (drop (k * D) ys) low (λ i l. rw (getD-drop, getD-drop) (same (k * D + i) (omega arith)))
+same-pixel : (xs ys : List ℕ) (D n : ℕ) → 1 ≤ D → ((i : ℕ) → i < n * D → getD xs i 0 ≡ getD ys i 0) → (k : ℕ) → k < n → pixelAt D xs k ≡ pixelAt D ys k
+same-pixel xs ys D n low same k h =
+    let all : (k + 1) * D ≤ n * D = mul-le-mul-right D (omega arith) in
+    pixelAt-cong D k xs ys low (λ i l. same (k * D + i) (omega arith))
 
 module _ (palette : List ℕ) (a b : Picture) where
   -- pixels of one depth that are stored in the same bytes

@@ -2,7 +2,7 @@
 use mathlib.Core.Path.{_≡_, refl, sym, _∙_}
 use mathlib.Core.List.{List, [], _∷_}
 use mathlib.Core.Bool.{Bool, true, false}
-use Prim.Native.Nat.{ℕ, zero, suc, _+_, _≤_, _<_}
+use Prim.Native.Nat.{ℕ, zero, suc, _+_, _*_, _≤_, _<_}
 use native.Mathlib.Nat.{add-zero}
 use native.Mathlib.Omega.{arith}
 use lib.Dec.{ltb}
@@ -10,7 +10,7 @@ use lib.ListN.{length, getD, take, drop}
 use lib.Seq.{getD-drop, getD-take, length-take-le, ext-getD}
 use borrow.Author.Tests.{ltb-true, lt-ltb}
 use Rattle.base.specs.Picks.{pick}
-use Rattle.picture.specs.Pixels.{Pixel, firstPixel}
+use Rattle.picture.specs.Pixels.{Pixel, firstPixel, pixelAt}
 
 -- an array of three
 pub three : (p : Pixel) → length p ≡ 3 → p ≡ getD p 0 0 ∷ getD p 1 0 ∷ getD p 2 0 ∷ []
@@ -32,6 +32,11 @@ first-pixel-cong D xs ys h e = λ j.
     ∷ pick-cong (ltb 1 D) (getD xs 1 0) (getD ys 1 0) (λ t. e 1 (ltb-true 1 D t)) j
     ∷ pick-cong (ltb 2 D) (getD xs 2 0) (getD ys 2 0) (λ t. e 2 (ltb-true 2 D t)) j
     ∷ []
+
+pub pixelAt-cong : (D k : ℕ) (xs ys : List ℕ) → 1 ≤ D → ((i : ℕ) → i < D → getD xs (k * D + i) 0 ≡ getD ys (k * D + i) 0) → pixelAt D xs k ≡ pixelAt D ys k
+unfolding pixelAt
+pixelAt-cong D k xs ys h e =
+    first-pixel-cong D (drop (k * D) xs) (drop (k * D) ys) h (λ i b. simp getD-drop (e i b))
 
 pub getD-first-pixel : (D : ℕ) (xs : List ℕ) (i : ℕ) → i < D → D ≤ 3 → getD (firstPixel D xs) i 0 ≡ getD xs i 0
 unfolding firstPixel

@@ -7,9 +7,9 @@ use native.Mathlib.Numerals.{add-one, add-two}
 use native.Mathlib.Decide.{decLt}
 use native.Mathlib.Omega.{arith}
 use lib.ListN.{length, getD, take, drop, set, length-append, length-drop, List·getD-append}
-use lib.Seq.{getD-drop, getD-take, take-at, drop-at, sets-eq, take-add, length-take-le, getD-at, drop-paste}
+use lib.Seq.{getD-take, take-at, drop-at, sets-eq, take-add, length-take-le, getD-at, drop-paste}
 use Rattle.picture.specs.Pixels.{Pixel, firstPixel, pixelAt, bytesOf}
-use Rattle.picture.proofs.Pixels.{three, first-pixel-cong, take-first-pixel}
+use Rattle.picture.proofs.Pixels.{three, first-pixel-cong, pixelAt-cong, take-first-pixel}
 use Rattle.rle.specs.Stored.{pixelsOf, storePixel}
 
 -- ---- the first n pixels
@@ -45,11 +45,6 @@ module _ (xs p : List ℕ) (at D : ℕ) where
   pub store-3 : D ≡ 3 → length p ≡ 3 → at + D ≤ length xs → set (set (set xs at (getD p 0 0)) (at + 1) (getD p 1 0)) (at + 2) (getD p 2 0) ≡ storePixel D xs at p
   unfolding storePixel
   store-3 e l h = rw (e, ap (λ (q : Pixel). take 3 q) (three p l), add-one at, add-two at) (sets-eq (getD p 0 0 ∷ getD p 1 0 ∷ getD p 2 0 ∷ []) xs at (omega arith))
-
-pub pixelAt-cong : (D k : ℕ) (xs ys : List ℕ) → 1 ≤ D → ((i : ℕ) → i < D → getD xs (k * D + i) 0 ≡ getD ys (k * D + i) 0) → pixelAt D xs k ≡ pixelAt D ys k
-unfolding pixelAt
-pixelAt-cong D k xs ys h e =
-    first-pixel-cong D (drop (k * D) xs) (drop (k * D) ys) h (λ i b. simp getD-drop (e i b))
 
 -- the first n pixels see only the first n * D bytes
 pub pixels-take : (D n m : ℕ) (xs : List ℕ) → 1 ≤ D → n * D ≤ m → pixelsOf D n (take m xs) ≡ pixelsOf D n xs

@@ -15,11 +15,11 @@ use Rattle.print.specs.Digits.{decimal, hexDigit, hexPairs}
 use Rattle.tile_text.specs.Text.{textOf, Bytes}
 use Rattle.tile_text.specs.Parse.{keys, keyByte, decimalValue, hexValue, start, onLine, bad, keyRead, withValue, nextLine, endNumber, countMore, byteRead, goesOn, numberDigit, step, endsByte, stored, fed, fedInto}
 use Rattle.tile_text.specs.declared.parser.Parser.{Parser}
-use Rattle.base.proofs.Tests.{by-test, by-less}
+use Rattle.base.proofs.Tests.{by-test, by-less, clash}
 use Rattle.tile_text.proofs.Keys.{keyOf, key-over, key-more}
 use Rattle.tile_text.proofs.Digits.{decimal-digit, hex-digit}
 use Rattle.print.proofs.Printed.{decimal-small, decimal-more, pairs-append}
-use Rattle.tile_text.proofs.Steps.{clash, going-on, step-key, step-number, step-stream, step-after, key-cases, number-cases, stream-cases, ends-elsewhere, ends-first, ends-second, stored-in, stored-past, stored-not}
+use Rattle.tile_text.proofs.Steps.{going-on, step-key, step-number, step-stream, step-after, key-cases, number-cases, stream-cases, ends-elsewhere, ends-first, ends-second, stored-in, stored-past, stored-not}
 
 -- ---- what is read
 

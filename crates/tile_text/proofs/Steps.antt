@@ -1,7 +1,7 @@
 -- What a byte does to the state and to the stream's array, case by case. Assumes nothing.
 use mathlib.Core.Path.{_≡_, refl}
 use mathlib.Core.List.{List}
-use mathlib.Core.Bool.{Bool, true, false}
+use mathlib.Core.Bool.{true, false}
 use Prim.Native.Nat.{ℕ, _+_, _*_, _%_, _<_, _≤_}
 use native.Mathlib.Omega.{arith}
 use lib.Dec.{ltb, eqb}
@@ -9,11 +9,8 @@ use lib.ListN.{set}
 use borrow.Author.Tests.{eq-eqb, ne-eqb, lt-ltb, le-ltb, ltb-true, eqb-true, eqb-false}
 use Rattle.tile_text.specs.Parse.{keyByte, decimalValue, hexValue, onLine, bad, keyRead, withValue, endNumber, byteRead, goesOn, numberDigit, valueStep, numberStep, streamStep, keyStep, step, endsByte, stored}
 use Rattle.tile_text.specs.declared.parser.Parser.{Parser}
-use Rattle.base.proofs.Tests.{by-test, apart}
+use Rattle.base.proofs.Tests.{by-test, clash}
 use Rattle.tile_text.proofs.Keys.{past-lines}
-
-pub clash : {A : Type 0} {t : Bool} → t ≡ true → t ≡ false → A
-clash e f = apart cc
 
 -- a number that is begun and goes on isn't 0, and is below 10,000,000
 pub going-on : (p : Parser) → p .begun ≡ true → goesOn p ≡ true → (0 < p .value) × (p .value < 10_000_000)

@@ -1,4 +1,4 @@
--- `both_valid` meets its contract. Assumes nothing.
+-- `both_valid` meets its contract: with the same numbers a longer slice is valid too. Assumes nothing.
 use borrow.Author.Needs.{needs}
 use borrow.Author.Tests.{not-true, not-false}
 use mathlib.Core.Path.{sym, _∙_}

@@ -5,9 +5,8 @@ use borrow.Author.Tests.{not-true, not-false}
 use mathlib.Core.Path.{_≡_, sym, _∙_}
 use mathlib.Core.Bool.{true}
 use native.Mathlib.Omega.{arith}
-use Rattle.base.proofs.Tests.{both-true}
+use Rattle.base.proofs.Tests.{clash, both-true}
 use Rattle.color.specs.SamePicture.{valid, pictureOf}
-use Rattle.color.proofs.Every.{clash}
 use Rattle.color.proofs.Meaning.{differs, bytes-decide}
 use Rattle.color.proofs.Valid.{valid-painted}
 use Rattle.color.proofs.same.same_picture.Statement.{statement}
