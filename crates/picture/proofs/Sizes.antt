@@ -42,8 +42,8 @@ module _ (bpp w h i : ℕ) (is : i ≡ depthIndex bpp) where
           unfolding checked sizeOf accept
           size-fits e D p = rw (← is, lt-leb 4 i a, ne-eqb w 0 b, ne-eqb h 0 c, le-ltb 8192 w d, le-ltb 8192 h e, p)
 
-clash : (n : ℕ) (r : Refusal) → bytes n ≡ refused r → ⊥
-clash n r e = apart cc
+not-refused : {A : Type 0} (n : ℕ) (r : Refusal) → bytes n ≡ refused r → A
+not-refused n r e = apart cc
 
 -- what was matched of a size
 pub matched : {s t : PictureSize} {x : Size} → s ≡ t → sizeIn s ≡ x → sizeIn t ≡ x
@@ -65,7 +65,7 @@ module _ (bpp w h n : ℕ) (is : bytes n ≡ sizeOf (checked bpp w h)) where
   sized = depth (leb 4 (depthIndex bpp)) refl
     where
       impossible : (r : Refusal) → sizeOf (checked bpp w h) ≡ refused r → Sized bpp w h n
-      impossible r e = absurd (clash n r (is ∙ e))
+      impossible r e = not-refused n r (is ∙ e)
 
       fits : leb 4 (depthIndex bpp) ≡ false → eqb w 0 ≡ false → eqb h 0 ≡ false → ltb 8192 w ≡ false → (b : Bool) → ltb 8192 h ≡ b → Sized bpp w h n
       fits p q r s true e = impossible (refusal 3 w h) (rw (p, q, r, s, e))
@@ -108,4 +108,4 @@ few-bytes bpp k a b = mul-le-mul (few a b) (depth-good bpp k .high)
 pub size-refused : (c : Checked) (r : Refusal) → refused r ≡ sizeOf c → c ≡ refused r
 unfolding sizeOf
 size-refused (refused x) r e = cc
-size-refused (accepted f k) r e = absurd (clash (f .total * f .bytes) r (sym e))
+size-refused (accepted f k) r e = not-refused (f .total * f .bytes) r (sym e)
