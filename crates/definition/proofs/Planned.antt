@@ -2,7 +2,7 @@
 -- operand bytes, then the kinds by cases. Assumes nothing.
 use mathlib.Core.Path.{_≡_, refl, ap, _∙_}
 use mathlib.Core.Bool.{Bool, true, false}
-use Prim.Native.Nat.{ℕ, _+_, _*_, _-_, _/_, _≤_, _<_}
+use Prim.Native.Nat.{ℕ, _+_, _*_, _-_, _/_, _%_, _≤_, _<_}
 use native.Mathlib.Nat.{le-refl, sub-zero, zero-add}
 use native.Mathlib.Omega.{arith}
 use lib.Dec.{leb}
@@ -233,3 +233,11 @@ image-read D n a R =
     by-test (λ (c : Counts). c .pixels * D ≤ a) (leb (n * D) a)
     (λ e. by-test (λ (c : Counts). behind (n * D) c .pixels * D ≤ a) (leb n R) (λ _. leb-true (n * D) a e) (λ _. omega arith))
     (λ _. omega arith)
+
+-- a dithered run paints pairs
+pub pairs-read : (d D n a R : ℕ) → withOperands d a (runCounts D (n * 2) R) .pixels % 2 ≡ 0
+unfolding withOperands behind runCounts
+pairs-read d D n a R =
+    by-test (λ (c : Counts). c .pixels % 2 ≡ 0) (leb d a)
+    (λ _. by-test (λ (c : Counts). behind d c .pixels % 2 ≡ 0) (leb (n * 2) R) (λ _. omega arith) (λ _. refl))
+    (λ _. refl)

@@ -1,6 +1,6 @@
 -- Laws of the depth table. Assumes nothing.
 use mathlib.Core.Path.{_≡_, refl, ap, sym, _∙_}
-use mathlib.Core.List.{map}
+use mathlib.Core.List.{[], _∷_, map}
 use Prim.Native.Nat.{ℕ, zero, suc, _≤_, _<_}
 use native.Mathlib.Omega.{arith}
 use lib.Dec.{eqb, lit≤}
@@ -35,7 +35,7 @@ pub record Good (d : Depth) : Type 0 where
   pub low : 1 ≤ d .bytes
   pub high : d .bytes ≤ 3
   pub white : OfDepth (d .bytes) (d .white)
-  pub black : OfDepth (d .bytes) (d .black)
+  pub black : d .black ≡ 0 ∷ 0 ∷ 0 ∷ []
   pub listed : depthIndex (d .format) < 4
 
 pub depth-good : (bpp : ℕ) → depthIndex bpp < 4 → Good (depthOf bpp)

@@ -10,7 +10,7 @@ use lib.ListN.{length, getD, take, drop}
 use lib.Seq.{getD-drop, getD-take, length-take-le, ext-getD}
 use borrow.Author.Tests.{ltb-true, lt-ltb}
 use Rattle.base.specs.Picks.{pick}
-use Rattle.picture.specs.Pixels.{Pixel, firstPixel, pixelAt}
+use Rattle.picture.specs.Pixels.{Pixel, firstPixel, pixelAt, OfDepth}
 
 -- an array of three
 pub three : (p : Pixel) → length p ≡ 3 → p ≡ getD p 0 0 ∷ getD p 1 0 ∷ getD p 2 0 ∷ []
@@ -72,3 +72,12 @@ take-first-pixel D xs h b =
     (λ i c.
     let c′ : i < D = rw e at c in
     getD-take D (firstPixel D xs) i 0 c′ ∙ getD-first-pixel D xs i c′ h ∙ sym (getD-take D xs i 0 c′))
+
+-- a pixel of zeros has its unused bytes zero
+pub zeros-of-depth : (D : ℕ) → OfDepth D (0 ∷ 0 ∷ 0 ∷ [])
+unfolding firstPixel
+zeros-of-depth D = λ t. 0 ∷ same (ltb 1 D) t ∷ same (ltb 2 D) t ∷ []
+  where
+    same : (b : Bool) → _≡_ {A = ℕ} (pick b 0 0) 0
+    same true = refl
+    same false = refl
