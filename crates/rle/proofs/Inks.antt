@@ -1,6 +1,6 @@
 -- Laws of the code's inks: those of a state, and of a state with another foreground. Assumes nothing.
 use mathlib.Core.Path.{_≡_, refl, ap, _∙_}
-use mathlib.Core.List.{List}
+use mathlib.Core.List.{List, [], _∷_}
 use mathlib.Core.Bool.{Bool, true, false}
 use Prim.Native.Nat.{ℕ, _≤_, zero-le}
 use native.Mathlib.Nat.{le-refl}
@@ -15,10 +15,11 @@ use Rattle.rle.specs.declared.paint.Ink.{Ink as CodeInk}
 use Rattle.base.specs.Picks.{pick}
 use Rattle.picture.specs.Pixels.{Pixel, OfDepth}
 use Rattle.picture.specs.Sizes.{Frame}
+use Rattle.picture.proofs.Pixels.{zeros-of-depth}
 use Rattle.base.proofs.Tests.{by-test}
 use Rattle.definition.specs.Decode.{solid, fgInk, bgInk, insertInk}
 use Rattle.definition.specs.Plan.{newForeground, imageInk, Left, anInsert, aForeground, nothing, foregroundIn}
-use Rattle.rle.specs.Painting.{Painted, ofMode, inkOf, reach}
+use Rattle.rle.specs.Painting.{MaskInks, Painted, ofMode, inkOf, reach}
 use Rattle.rle.specs.States.{Framed, Invariant, rowAbove, rowMode, rowInk, fgOf, bgOf, withFg}
 use Rattle.rle.proofs.Painting.{of-depth, painted-as}
 
@@ -36,6 +37,10 @@ row-reach {f} {s} later invariant = go (s .«first_row») (invariant .row)
     go : (t : Bool) → rowAbove t (f .width) ≤ s .pixels → reach (rowMode t later) (f .width) ≤ s .pixels
     go true h = h
     go false h = omega (arith, reach-most later (f .width))
+
+-- black has its unused bytes zero
+pub black-of-depth : {given : ℕ} {f : Frame} → Framed given f → OfDepth (f .bytes) (f .black)
+black-of-depth {f = f} frame = rw (frame .black) (zeros-of-depth (f .bytes))
 
 -- the foreground that an order leaves has its unused bytes zero
 pub new-of-depth : {given : ℕ} {f : Frame} {p : Pixel} → Framed given f → OfDepth (f .bytes) p → (xs : List ℕ)
@@ -66,6 +71,15 @@ pub bg-is : {j : CodeInk} {t : CodeState} {p : Pixel} (f : CodeFrame) (s : CodeS
     → inkOf j ≡ bgInk (s .«first_row») (f .depth .black)
 unfolding bgInk
 bg-is {p = p} f s e is = ap (λ (x : CodeInk). inkOf x) (is ∙ ap (λ (x : CodeState). bgOf f x) e) ∙ ink-in-row (s .«first_row») Above (f .depth .black)
+
+-- a state's two inks are those of a mask's bits
+pub state-masks : {i j : CodeInk} (t : CodeState) (f : CodeFrame) → f .depth .black ≡ 0 ∷ 0 ∷ 0 ∷ [] → i ≡ fgOf t → j ≡ bgOf f t → MaskInks i j
+unfolding fgInk bgInk
+state-masks t f black fg bg = rw (fg, bg, black) (go (t .«first_row»))
+  where
+    go : (first : Bool) → MaskInks (rowInk first AboveXor (t .foreground)) (rowInk first Above (0 ∷ 0 ∷ 0 ∷ []))
+    go true = record { one = refl; zero = refl }
+    go false = record { one = refl; zero = refl }
 
 module _ {D w k n : ℕ} {xs ys : List ℕ} {i j : CodeInk} (f : CodeFrame) (s : CodeState) (fg : i ≡ fgOf s) (bg : j ≡ bgOf f s) where
   pub insert-inks : (insert : Bool) → Painted D w (insertInk insert (inkOf i) (inkOf j)) k n xs ys

@@ -2,7 +2,7 @@
 use mathlib.Core.Path.{_≡_, refl, ap, sym, _∙_, subst}
 use mathlib.Core.List.{List}
 use mathlib.Core.Bool.{Bool}
-use Prim.Native.Nat.{ℕ, _+_, _*_, _-_, _≤_, _<_}
+use Prim.Native.Nat.{ℕ, _+_, _*_, _-_, _%_, _≤_, _<_}
 use native.Mathlib.Nat.{mul-le-mul-right}
 use native.Mathlib.Omega.{arith}
 use lib.ListN.{length, drop, length-drop}
@@ -22,7 +22,7 @@ use Rattle.rle.specs.States.{stateOf, withFg, Fits, finishedOf}
 use Rattle.rle.specs.Orders.{Ready, Executes, stepIn}
 use Rattle.rle.proofs.Pixels.{length-pixelsOf}
 use Rattle.definition.proofs.Masks.{acted}
-use Rattle.definition.proofs.Planned.{inkBy, kind-acted, Within, kind-within, orders-few, operands-there, image-read}
+use Rattle.definition.proofs.Planned.{inkBy, kind-acted, Within, kind-within, orders-few, operands-there, image-read, pairs-read}
 use Rattle.rle.proofs.Inks.{foreground-of-depth}
 
 -- ---- where pixels can be painted
@@ -63,13 +63,16 @@ module _ {given : ℕ} {f : Frame} {s : CodeState} {n : ℕ} (ready : Ready give
 pub fits-with : {s t : CodeState} {x : Pixel} {p : CodePlan} → t ≡ withFg s x → Fits s p → Fits t p
 fits-with e h = rw e (record { read = h .read; pixels = h .pixels; counted = h .counted })
 
--- an order that paints has its operands, and a color image those of all its pixels
+-- an order that paints has its operands, and a color image those of all its pixels; a dithered run paints pairs
 module _ (a : ℕ) (p : CodePlan) where
   pub operands-read : (d : ℕ) (c : Counts) → countsIn p ≡ withOperands d a c → 0 < p .pixels → d ≤ a
   operands-read d c e h = operands-there d a c (subst (λ (x : Counts). 0 < x .pixels) e h)
 
   pub image-operands : (D n R : ℕ) → countsIn p ≡ withOperands (n * D) a (runCounts D n R) → p .pixels * D ≤ a
   image-operands D n R e = subst (λ (x : Counts). x .pixels * D ≤ a) (sym e) (image-read D n a R)
+
+  pub pairs-even : (d D n R : ℕ) → countsIn p ≡ withOperands d a (runCounts D (n * 2) R) → p .pixels % 2 ≡ 0
+  pairs-even d D n R e = subst (λ (x : Counts). x .pixels % 2 ≡ 0) (sym e) (pairs-read d D n a R)
 
 -- t and i: the state but for what is read and painted, and the insert, that an order of kind k leaves, with the bytes xs from its
 -- operands on

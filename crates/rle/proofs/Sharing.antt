@@ -11,7 +11,7 @@ use lib.Seq.{drop-drop}
 use Rattle.rle.specs.declared.state.State.{State as CodeState}
 use Rattle.rle.specs.declared.state.Frame.{Frame as CodeFrame}
 use Rattle.rle.specs.declared.state.Stepped.{Stepped}
-use Rattle.rle.specs.declared.paint.Mode.the-variants.{Above, AboveXor}
+use Rattle.rle.specs.declared.paint.Mode.the-variants.{AboveXor}
 use Rattle.rle.specs.declared.paint.Ink.{Ink as CodeInk}
 use Rattle.rle.specs.declared.plan.Plan.{Plan as CodePlan}
 use Rattle.base.specs.Picks.{pick}
@@ -21,13 +21,13 @@ use Rattle.definition.specs.Orders.{Kind, FgBgImage, SetFgBgImage, SpecialFgBg1
 use Rattle.definition.specs.Decode.{solid, fgInk, bgInk, maskInk, State, state, orderOf}
 use Rattle.definition.specs.Plan.{refused, Counts, counts, behind, withOperands, runCounts, countsOf, leavesInsert, foregroundBy, imageInk, kindInk, leaves, insertIn, foregroundIn}
 use Rattle.rle.specs.Planning.{countsIn}
-use Rattle.rle.specs.Painting.{Paintable, Painted, inkOf}
+use Rattle.rle.specs.Painting.{Paintable, Painted, inkOf, MaskInks}
 use Rattle.rle.specs.States.{frameOf, stateOf, fgOf, bgOf, withFg}
 use Rattle.rle.specs.Orders.{Ready, Executes}
 use Rattle.rle.proofs.Painting.{painted-as}
 use Rattle.definition.proofs.Masks.{image-masks}
 use Rattle.definition.proofs.Planned.{inkBy, run-most}
-use Rattle.rle.proofs.Inks.{row-reach, foreground-of-depth, fg-is, bg-is}
+use Rattle.rle.proofs.Inks.{row-reach, foreground-of-depth, state-masks, fg-is, bg-is}
 use Rattle.rle.proofs.Orders.{paintable, within, Leaves}
 
 pub executes-kind : {f : Frame} {src before after : List ℕ} {s : CodeState} {r : Stepped} (n : ℕ) {k l : Kind} → k ≡ l
@@ -47,6 +47,12 @@ special-leaves D s xs false = record { state = refl; insert = refl }
 
 pub special-few : (D R : ℕ) (p : CodePlan) → countsIn p ≡ runCounts D 8 R → p .pixels ≤ 8
 special-few D R p e = subst (λ (c : Counts). c .pixels ≤ 8) (sym e) (run-most D 8 R)
+
+-- all eight pixels or none
+pub special-whole : (D R : ℕ) (p : CodePlan) → countsIn p ≡ runCounts D 8 R → p .pixels / 8 * 8 ≡ p .pixels
+unfolding runCounts
+special-whole D R p e =
+    subst (λ (c : Counts). c .pixels / 8 * 8 ≡ c .pixels) (sym e) (by-test (λ (c : Counts). c .pixels / 8 * 8 ≡ c .pixels) (leb 8 R) (λ _. omega arith) (λ _. omega arith))
 
 pub special-ink : (f : Frame) (s : State) (t : Bool) (j : ℕ) → j < 8
     → imageInk (fgInk (s .firstRow) (s .foreground)) (bgInk (s .firstRow) (f .black)) (pick t 0x03 0x05 ∷ []) j ≡ inkBy f (pick t SpecialFgBg1 SpecialFgBg2) s j
@@ -99,7 +105,7 @@ image-ink f s pos src e true j = rw (e, drop-drop)
 image-ink f s pos src e false j = rw (e, add-zero)
 
 -- those masks are enough for the pixels
-image-enough : (D n a R : ℕ) (t : Bool) → countsOf D (pick t SetFgBgImage FgBgImage) n a R .pixels ≤ (a - pick t D 0) * 8
+pub image-enough : (D n a R : ℕ) (t : Bool) → countsOf D (pick t SetFgBgImage FgBgImage) n a R .pixels ≤ (a - pick t D 0) * 8
 unfolding countsOf withOperands behind
 image-enough D n a R true =
     by-test (λ (c : Counts). c .pixels ≤ (a - D) * 8) (leb D a) (λ e. image-masks D n (a - D) R) (λ e. omega arith)
@@ -120,7 +126,7 @@ module _ (f : CodeFrame) (src dst : List ℕ) (s : CodeState) (t : Bool) {u : Co
   pub image-paintable : {n : ℕ} → Ready (length dst) (frameOf f) s n → (p : CodePlan)
       → countsIn p ≡ countsOf (f .depth .bytes) (pick t SetFgBgImage FgBgImage) n (length src - s .pos) (f .total - s .pixels)
       → Paintable (f .depth .bytes) (f .width) (s .pixels) (p .pixels) dst i
-      × (Paintable (f .depth .bytes) (f .width) (s .pixels) (p .pixels) dst j × (p .pixels ≤ (length src - (s .pos + size)) * 8))
+      × ((p .pixels ≤ (length src - (s .pos + size)) * 8) × MaskInks i j)
   image-paintable {n} ready p plans =
       let k = pick t SetFgBgImage FgBgImage in
       let w = within ready k (length src - s .pos) p plans in
@@ -129,5 +135,5 @@ module _ (f : CodeFrame) (src dst : List ℕ) (s : CodeState) (t : Bool) {u : Co
       (image-enough (f .depth .bytes) n (length src - s .pos) (f .total - s .pixels) t) in (
         rw (fg, state)
             (paintable dst (p .pixels) ready (w .pixels) _ (row-reach AboveXor inv) (foreground-of-depth (ready .frame) (inv .foreground) (drop (s .pos) src) (leaves k))),
-        (rw (bg, state) (paintable dst (p .pixels) ready (w .pixels) _ (row-reach Above inv) (ready .frame .black)), rw sized (omega (arith, enough))),
+        (rw sized (omega (arith, enough)), state-masks u f (ready .frame .black) fg bg),
       )

@@ -1,10 +1,11 @@
 -- What the painters promise: pixels as the definition paints them, and nothing behind them changed.
 use mathlib.Core.Path.{_≡_}
 use mathlib.Core.List.{List, [], _∷_, _++_}
+use mathlib.Core.Bool.{Bool, true, false}
 use Prim.Native.Nat.{ℕ, _+_, _*_, _≤_}
 use lib.ListN.{length, drop}
 use Rattle.picture.specs.Pixels.{Pixel, OfDepth}
-use Rattle.definition.specs.Decode.{Ink, solid, above, aboveXor, color, paint}
+use Rattle.definition.specs.Decode.{Ink, solid, above, aboveXor, color, paint, fgInk, bgInk}
 use Rattle.rle.specs.declared.paint.Mode.{Mode}
 use Rattle.rle.specs.declared.paint.Mode.the-variants.{Solid, Above, AboveXor}
 use Rattle.rle.specs.declared.paint.Ink.{Ink as CodeInk}
@@ -26,6 +27,16 @@ abbrev pub reach : Mode → ℕ → ℕ
 reach Solid w = 0
 reach Above w = w
 reach AboveXor w = w
+
+abbrev pub isSolid : Mode → Bool
+isSolid Solid = true
+isSolid Above = false
+isSolid AboveXor = false
+
+-- the inks of a mask's bits: in the first row a color and zeros, later the pixel above exclusive-or a color and the pixel above
+pub record MaskInks (fg bg : CodeInk) : Type 0 where
+  pub one : inkOf fg ≡ fgInk (isSolid (fg .mode)) (fg .pixel)
+  pub zero : inkOf bg ≡ bgInk (isSolid (fg .mode)) (0 ∷ 0 ∷ 0 ∷ [])
 
 -- n pixels of D bytes from number k on have a place in xs
 pub record HasPlace (D k n : ℕ) (xs : List ℕ) : Type 0 where

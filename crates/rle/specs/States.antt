@@ -1,7 +1,8 @@
 -- The code's frame and state: what they stand for in the definition, what holds of a state between orders, and the states that the
 -- functions of state.rt answer.
 use mathlib.Core.Bool.{Bool, true, false}
-use mathlib.Core.List.{List}
+use mathlib.Core.Path.{_≡_}
+use mathlib.Core.List.{List, [], _∷_}
 use Prim.Native.Nat.{ℕ, _+_, _*_, _≤_}
 use lib.Dec.{ltb}
 use lib.ListN.{drop}
@@ -52,7 +53,7 @@ pub record Framed (given : ℕ) (f : Frame) : Type 0 where
   pub few : f .total ≤ 67108864
   pub fits : f .total * f .bytes ≤ given
   pub white : OfDepth (f .bytes) (f .white)
-  pub black : OfDepth (f .bytes) (f .black)
+  pub black : f .black ≡ 0 ∷ 0 ∷ 0 ∷ []
 
 -- the row above is there once the first row has ended
 abbrev pub rowAbove : Bool → ℕ → ℕ

@@ -13,6 +13,7 @@ ghost use Rattle.rle.specs.States.{frameOf, withFg};
 ghost use Rattle.rle.specs.Orders.{Ready, Executes};
 use crate::paint::paint_image;
 use crate::paint::paint_masks;
+use crate::paint::paint_whole_masks;
 use crate::plan::foreground_size;
 use crate::plan::plan_color_image;
 use crate::plan::plan_fgbg_image;
@@ -53,14 +54,14 @@ pub(crate) fn special_fgbg(dst: &mut [u8], f: Frame, s: State, kind: u8) -> Step
     let d = f.depth.bytes;
     let p = plan_run(d, f.total - s.pixels, 8);
     let masks = [special_mask(kind)];
-    paint_masks(
+    paint_whole_masks(
         &masks,
         0,
         dst,
         d,
         f.width,
         s.pixels,
-        p.pixels,
+        p.pixels / 8,
         fg_ink(s),
         bg_ink(f, s),
     );

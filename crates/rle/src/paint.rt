@@ -3,18 +3,24 @@
 // A painter of an order's pixels returns at once where there are none. A plan that refuses its order asks for none, so the compiler
 // takes a refused order past the painting.
 ghost use mathlib.Core.Path.{_≡_};
+ghost use mathlib.Core.Bool.{false};
 ghost use Prim.Native.Nat.{ℕ, _+_, _-_, _*_, _%_, _≤_, _<_};
-ghost use lib.Dec.{eqb};
 ghost use lib.ListN.{length, drop};
 ghost use Rattle.base.specs.Picks.{pick};
 ghost use Rattle.picture.specs.Pixels.{firstPixel, pixelAt, OfDepth};
 ghost use Rattle.definition.specs.Decode as decode;
 ghost use Rattle.definition.specs.Plan.{imageInk};
-ghost use Rattle.rle.specs.Painting.{HasPlace, Paintable, PaintedOne, Painted, inkOf, solidInk};
+ghost use Rattle.rle.specs.Painting.{HasPlace, Paintable, MaskInks, PaintedOne, Painted, inkOf, isSolid, solidInk};
 use crate::pixel::read_pixel;
 use crate::pixel::write_pixel;
 use crate::pixel::xor;
-use crate::plan::at_most_8;
+use copy::copy_back;
+use copy::copy_in;
+use fill::fill;
+use fill::fill_pairs;
+use mask::mask_part;
+use mask::masks;
+use xor::xor_back;
 
 pub(crate) enum Mode {
     Solid,
@@ -56,15 +62,59 @@ pub(crate) fn paint_pixel(dst: &mut [u8], d: usize, w: usize, k: usize, ink: Ink
     }
 }
 
+// n pixels from number k on in a color. The part that is lent is as long as they are, so that the compiler finds the tests of the writer
+// to hold; and so below.
+pub(crate) fn paint_color(dst: &mut [u8], d: usize, w: usize, k: usize, n: usize, p: [u8; 3])
+    requires { ⌜ HasPlace d k n (now dst) ⌝ }
+    requires { ⌜ OfDepth d p ⌝ }
+    ensures { λ _. ⌜ Painted d w (λ _. decode.Ink.solid p) k n (now (dst .entry)) (now (dst .exit)) ⌝ }
+{
+    let at = k * d;
+    let end = at + n * d;
+    fill(&mut dst[at..end], d, 0, n, p[0], p[1], p[2]);
+}
+
+// n pixels from number k on, those above.
+pub(crate) fn paint_above(dst: &mut [u8], d: usize, w: usize, k: usize, n: usize)
+    requires { ⌜ HasPlace d k n (now dst) ⌝ }
+    requires { ⌜ (1 ≤ w) × (w ≤ k) ⌝ }
+    ensures { λ _. ⌜ Painted d w (λ _. decode.Ink.above) k n (now (dst .entry)) (now (dst .exit)) ⌝ }
+{
+    let row = w * d;
+    let len = n * d;
+    let at = k * d;
+    let from = at - row;
+    let end = at + len;
+    copy_back(&mut dst[from..end], row, len, row);
+}
+
+// n pixels from number k on, those above exclusive-or a color.
+pub(crate) fn paint_xor(dst: &mut [u8], d: usize, w: usize, k: usize, n: usize, p: [u8; 3])
+    requires { ⌜ HasPlace d k n (now dst) ⌝ }
+    requires { ⌜ (1 ≤ w) × (w ≤ k) × OfDepth d p ⌝ }
+    ensures { λ _. ⌜ Painted d w (λ _. decode.Ink.aboveXor p) k n (now (dst .entry)) (now (dst .exit)) ⌝ }
+{
+    let row = w * d;
+    let at = k * d;
+    let from = at - row;
+    let end = at + n * d;
+    xor_back(&mut dst[from..end], d, row, n, row, p[0], p[1], p[2]);
+}
+
 // n pixels from number k on, all with one ink.
 pub(crate) fn paint_run(dst: &mut [u8], d: usize, w: usize, k: usize, n: usize, ink: Ink)
     requires { ⌜ Paintable d w k n (now dst) ink ⌝ }
     ensures { λ _. ⌜ Painted d w (λ _. inkOf ink) k n (now (dst .entry)) (now (dst .exit)) ⌝ }
 {
-    let mut i = 0;
-    while i < n {
-        paint_pixel(dst, d, w, k + i, ink);
-        i += 1;
+    if n == 1 {
+        return paint_pixel(dst, d, w, k, ink);
+    }
+    let mode = ink.mode;
+    let p = ink.pixel;
+    match mode {
+        Mode::Solid => paint_color(dst, d, w, k, n, p),
+        Mode::Above => paint_above(dst, d, w, k, n),
+        Mode::AboveXor => paint_xor(dst, d, w, k, n, p),
     }
 }
 
@@ -100,6 +150,20 @@ pub(crate) fn paint_color_run(
     paint_run(dst, d, w, k, n, solid(color))
 }
 
+// n pixels from number k on, with a background's ink. After the first row it is the pixel above: by a call of its own that takes fewer
+// instructions than the way through all the modes.
+pub(crate) fn paint_background(dst: &mut [u8], d: usize, w: usize, k: usize, n: usize, ink: Ink)
+    requires { ⌜ Paintable d w k n (now dst) ink ⌝ }
+    ensures { λ _. ⌜ Painted d w (λ _. inkOf ink) k n (now (dst .entry)) (now (dst .exit)) ⌝ }
+{
+    let mode = ink.mode;
+    match mode {
+        Mode::Solid => paint_run(dst, d, w, k, n, ink),
+        Mode::Above => paint_above(dst, d, w, k, n),
+        Mode::AboveXor => paint_run(dst, d, w, k, n, ink),
+    }
+}
+
 // A background run's n pixels, the first with the foreground's ink where an insert is pending.
 pub(crate) fn paint_bg_run(
     dst: &mut [u8],
@@ -120,37 +184,95 @@ pub(crate) fn paint_bg_run(
     }
     if insert {
         paint_pixel(dst, d, w, k, fg);
-        return paint_run(dst, d, w, k + 1, n - 1, bg);
+        if n == 1 {
+            return;
+        }
+        return paint_background(dst, d, w, k + 1, n - 1, bg);
     }
-    paint_run(dst, d, w, k, n, bg)
+    paint_background(dst, d, w, k, n, bg)
 }
 
-// n pixels from number k on, by the bits of a mask.
-pub(crate) fn paint_mask(
+pub(crate) fn is_solid(mode: Mode) -> bool
+    ensures { λ r. ⌜ r ≡ isSolid mode ⌝ }
+{
+    match mode {
+        Mode::Solid => true,
+        Mode::Above => false,
+        Mode::AboveXor => false,
+    }
+}
+
+// How many bytes back masks look: none in the first row.
+pub(crate) fn bytes_back(first: bool, d: usize, w: usize) -> usize
+    requires { ⌜ (first ≡ false → w * d ≤ 18446744073709551615) ⌝ }
+    ensures { λ r. ⌜ r ≡ pick first 0 (w * d) ⌝ }
+{
+    if first {
+        return 0;
+    }
+    w * d
+}
+
+// 8 * m pixels from number k on, by the m masks from src[from] on.
+pub(crate) fn paint_whole_masks(
+    src: &[u8],
+    from: usize,
+    dst: &mut [u8],
+    d: usize,
+    w: usize,
+    k: usize,
+    m: usize,
+    fg: Ink,
+    bg: Ink,
+)
+    requires { ⌜ Paintable d w k (m * 8) (now dst) fg ⌝ }
+    requires { ⌜ (from + m ≤ length (now src)) × MaskInks fg bg ⌝ }
+    ensures { λ _. ⌜ Painted d w (imageInk (inkOf fg) (inkOf bg) (drop from (now (src .entry)))) k (m * 8) (now (dst .entry)) (now (dst .exit)) ⌝ }
+{
+    let p = fg.pixel;
+    let mode = fg.mode;
+    let first = is_solid(mode);
+    let row = bytes_back(first, d, w);
+    let at = k * d;
+    let start = at - row;
+    let end = at + m * 8 * d;
+    let last = from + m;
+    masks(
+        &src[from..last],
+        0,
+        &mut dst[start..end],
+        d,
+        row,
+        row,
+        m,
+        first,
+        p[0],
+        p[1],
+        p[2],
+    );
+}
+
+// n pixels from number k on, eight at most, by the mask src[from]. Here the whole target is lent: for so few pixels that is faster.
+pub(crate) fn paint_mask_part(
+    src: &[u8],
+    from: usize,
     dst: &mut [u8],
     d: usize,
     w: usize,
     k: usize,
     n: usize,
-    mask: u8,
     fg: Ink,
     bg: Ink,
 )
     requires { ⌜ Paintable d w k n (now dst) fg ⌝ }
-    requires { ⌜ Paintable d w k n (now dst) bg ⌝ }
-    ensures { λ _. ⌜ Painted d w (decode.maskInk (inkOf fg) (inkOf bg) mask) k n (now (dst .entry)) (now (dst .exit)) ⌝ }
+    requires { ⌜ (n ≤ 8) × (from < length (now src)) × MaskInks fg bg ⌝ }
+    ensures { λ _. ⌜ Painted d w (imageInk (inkOf fg) (inkOf bg) (drop from (now (src .entry)))) k n (now (dst .entry)) (now (dst .exit)) ⌝ }
 {
-    let mut m = mask;
-    let mut i = 0;
-    while i < n {
-        if m % 2 == 1 {
-            paint_pixel(dst, d, w, k + i, fg);
-        } else {
-            paint_pixel(dst, d, w, k + i, bg);
-        }
-        m = m / 2;
-        i += 1;
-    }
+    let p = fg.pixel;
+    let mode = fg.mode;
+    let first = is_solid(mode);
+    let row = bytes_back(first, d, w);
+    mask_part(src, from, dst, d, k * d, row, n, first, p[0], p[1], p[2]);
 }
 
 // n pixels from number k on, eight to a mask, by the masks from src[from] on.
@@ -166,47 +288,43 @@ pub(crate) fn paint_masks(
     bg: Ink,
 )
     requires { ⌜ Paintable d w k n (now dst) fg ⌝ }
-    requires { ⌜ Paintable d w k n (now dst) bg ⌝ }
-    requires { ⌜ n ≤ (length (now src) - from) * 8 ⌝ }
+    requires { ⌜ (n ≤ (length (now src) - from) * 8) × MaskInks fg bg ⌝ }
     ensures { λ _. ⌜ Painted d w (imageInk (inkOf fg) (inkOf bg) (drop from (now (src .entry)))) k n (now (dst .entry)) (now (dst .exit)) ⌝ }
 {
-    if n == 0 {
+    let m = n / 8;
+    if 0 < m {
+        paint_whole_masks(src, from, dst, d, w, k, m, fg, bg);
+    }
+    let rest = n % 8;
+    if rest == 0 {
         return;
     }
-    let mut i = 0;
-    while i < n {
-        let m = at_most_8(n - i);
-        paint_mask(dst, d, w, k + i, m, src[from + i / 8], fg, bg);
-        i += m;
-    }
+    paint_mask_part(src, from + m, dst, d, w, k + m * 8, rest, fg, bg);
 }
 
-// Pixel i of a dithered run: a where i is even, else b.
-pub(crate) fn dither_pixel(a: [u8; 3], b: [u8; 3], i: usize) -> [u8; 3]
-    ensures { λ r. ⌜ r ≡ pick (eqb (i % 2) 0) a b ⌝ }
-{
-    if i % 2 == 0 {
-        return a;
-    }
-    b
-}
-
-// n pixels from number k on, a and b by turns. Like an image's they look at no row above, so any width will do.
+// n pixels from number k on, an even number, a and b by turns. Like an image's they look at no row above, so any width will do.
 pub(crate) fn paint_dithered(dst: &mut [u8], d: usize, k: usize, n: usize, a: [u8; 3], b: [u8; 3])
     requires { ⌜ HasPlace d k n (now dst) ⌝ }
-    requires { ⌜ OfDepth d a × OfDepth d b ⌝ }
+    requires { ⌜ (n % 2 ≡ 0) × OfDepth d a × OfDepth d b ⌝ }
     ensures { λ _. ⌜ ((w : ℕ) → Painted d w (decode.ditherInk a b) k n (now (dst .entry)) (now (dst .exit))) ⌝ }
 {
-    let mut i = 0;
-    let mut to = k * d;
-    while i < n {
-        write_pixel(dst, d, to, dither_pixel(a, b, i));
-        to += d;
-        i += 1;
-    }
+    let at = k * d;
+    let end = at + n * d;
+    fill_pairs(
+        &mut dst[at..end],
+        d,
+        0,
+        n / 2,
+        a[0],
+        a[1],
+        a[2],
+        b[0],
+        b[1],
+        b[2],
+    );
 }
 
-// n pixels from number k on, by turns in the two colors that stand at src[pos].
+// n pixels from number k on, an even number, by turns in the two colors that stand at src[pos].
 pub(crate) fn paint_dithered_run(
     src: &[u8],
     pos: usize,
@@ -216,7 +334,7 @@ pub(crate) fn paint_dithered_run(
     n: usize,
 )
     requires { ⌜ HasPlace d k n (now dst) ⌝ }
-    requires { ⌜ (0 < n → pos + 2 * d ≤ length (now src)) ⌝ }
+    requires { ⌜ (0 < n → pos + 2 * d ≤ length (now src)) × (n % 2 ≡ 0) ⌝ }
     ensures { λ _. ⌜ ((w : ℕ) → Painted d w (decode.ditherInk (firstPixel d (drop pos (now (src .entry)))) (firstPixel d (drop d (drop pos (now (src .entry)))))) k n (now (dst .entry)) (now (dst .exit))) ⌝ }
 {
     if n == 0 {
@@ -248,14 +366,9 @@ pub(crate) fn paint_image(src: &[u8], pos: usize, dst: &mut [u8], d: usize, k: u
     if n == 0 {
         return;
     }
-    let mut i = 0;
-    let mut from = pos;
-    let mut to = k * d;
-    while i < n {
-        let p = read_pixel(src, d, from);
-        write_pixel(dst, d, to, p);
-        from += d;
-        to += d;
-        i += 1;
-    }
+    let len = n * d;
+    let last = pos + len;
+    let at = k * d;
+    let end = at + len;
+    copy_in(&src[pos..last], 0, &mut dst[at..end], 0, len);
 }

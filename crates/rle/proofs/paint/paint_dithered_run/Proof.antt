@@ -17,22 +17,22 @@ returns c = λ w. painted-zero (c .if1 .taken)
 read-pixel-requires : tie.Need-read-pixel-requires
 read-pixel-requires c κs =
     let s = c .before .before .before in
-    (s .pre .0 .low, s .pre .0 .high, omega (arith, s .pre .1 (omega arith)))
+    (s .pre .0 .low, s .pre .0 .high, omega (arith, s .pre .1 .0 (omega arith)))
 
 add-read-pixel : tie.Need-add-read-pixel
 add-read-pixel c =
     let s = c .before .before .before .before in
-    omega (arith, s .pre .1 (omega arith), s .good .0 .0)
+    omega (arith, s .pre .1 .0 (omega arith), s .good .0 .0)
 
 read-pixel-requires-2 : tie.Need-read-pixel-requires-2
 read-pixel-requires-2 c κs =
     let s = c .before .before .before .before in
-    (s .pre .0 .low, s .pre .0 .high, omega (arith, s .pre .1 (omega arith)))
+    (s .pre .0 .low, s .pre .0 .high, omega (arith, s .pre .1 .0 (omega arith)))
 
 paint-dithered-requires : tie.Need-paint-dithered-requires
 paint-dithered-requires c κs =
     let s = c .before .before .before .before .before .before in
-    (s .pre .0, (read-of-depth _ (s .pre .0 .low) (s .pre .0 .high) (c .before .before .read-pixel .ensures), read-of-depth _ (s .pre .0 .low) (s .pre .0 .high) (c .before .read-pixel2 .ensures)))
+    (s .pre .0, (s .pre .1 .1, read-of-depth _ (s .pre .0 .low) (s .pre .0 .high) (c .before .before .read-pixel .ensures), read-of-depth _ (s .pre .0 .low) (s .pre .0 .high) (c .before .read-pixel2 .ensures)))
 
 returns-2 : tie.Need-returns-2
 returns-2 c =

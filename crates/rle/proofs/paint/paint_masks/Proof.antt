@@ -1,62 +1,69 @@
--- `paint_masks` meets its contract. The invariant: i pixels are painted, by whole masks where any are left to paint. Assumes nothing.
-use mathlib.Core.Path.{_≡_, refl, _∙_}
-use Prim.Native.Nat.{_+_, _-_, _%_, _≤_, _<_}
-use lib.ListN.{length, drop}
+-- `paint_masks` meets its contract: whole masks, if there are any, and then none or the part that is left. Assumes nothing.
+use mathlib.Core.Path.{_≡_, ap, _∙_}
+use mathlib.Core.Logic.{⊎-elim}
+use mathlib.Core.List.{List}
+use Prim.Native.Nat.{ℕ, _+_, _*_, _/_, _%_}
 use native.Mathlib.Omega.{arith}
+use lib.ListN.{length, drop}
 use Rattle.definition.specs.Plan.{imageInk}
 use Rattle.rle.specs.Painting.{Painted, inkOf}
-use Rattle.rle.proofs.Painting.{painted-none, painted-zero, painted-join, painted-as, painted-at, at-most-bytes, part, mask-in-image}
+use Rattle.rle.proofs.Painting.{painted-at, painted-zero, painted-as, painted-join, part, front, at-most-bytes, image-later}
+use borrow.Author.Needs.{needs}
 use Rattle.rle.proofs.paint.paint_masks.Statement.{statement}
 use Rattle.rle.proofs.paint.paint_masks.Tie as tie
 
-abbrev Inv-loop : tie.InvT-loop
-Inv-loop src from dst₀ d w k n fg bg i₀ dst i =
-    (i ≤ n) × (length dst ≡ length dst₀) × (i < n → i % 8 ≡ 0) × Painted d w (imageInk (inkOf fg) (inkOf bg) (drop from src)) k i dst₀ dst
+paint-whole-masks-requires : tie.Need-paint-whole-masks-requires
+paint-whole-masks-requires c κs =
+    let s = c .before .before .before .before in
+    (front (s .args .n / 8 * 8) (s .pre .0) (omega arith), (omega arith, s .pre .1 .1))
 
-abbrev μ-loop : tie.MeasureT-loop
-μ-loop src from dst₀ d w k n fg bg i₀ dst i = n - i
+-- the whole masks are painted
+whole : (c : tie.Joined1)
+    → let s = c .before .before .before in
+    Painted (s .args .d) (s .args .w) (imageInk (inkOf (s .args .fg)) (inkOf (s .args .bg)) (drop (s .args .from) (s .args .src .now))) (s .args .k) (s .args .n / 8 * 8)
+    (s .args .dst .now) (c .if1 .dst)
+    × (length (c .if1 .dst) ≡ length (s .args .dst .now))
+whole c =
+    let s = c .before .before .before in
+    ⊎-elim
+    (λ t. (rw (t .5) (t .2 .ensures), ap (λ (ys : List ℕ). length ys) (t .5) ∙ t .2 .kept .1 .1 .0))
+    (λ t.
+    let none : s .args .n / 8 * 8 ≡ 0 = omega (arith, t .0 .left) in
+    (rw (t .1) (painted-zero none), ap (λ (ys : List ℕ). length ys) (t .1)))
+    (c .if1 .came)
 
-returns : tie.Need-returns Inv-loop μ-loop
-returns c = painted-zero (c .if1 .taken)
+same-length : tie.Need-same-length
+same-length c = whole (c .before) .1
 
-loop-holds : tie.Need-loop-holds Inv-loop μ-loop
-loop-holds c = (omega arith, refl, λ _. refl, painted-none)
+returns : tie.Need-returns
+returns c =
+    let s = c .before .before .before .before in
+    let e : s .args .n / 8 * 8 ≡ s .args .n = omega arith in
+    painted-at e (whole (c .before) .0)
 
-add-paint-mask : tie.Need-add-paint-mask Inv-loop μ-loop
-add-paint-mask c =
-    let s = c .before .before .before .before .before .before .before in
-    omega (arith, at-most-bytes (s .args .d) (s .args .k + s .args .n) (s .pre .0 .low), s .pre .0 .fits, s .good .0 .0)
+add-paint-mask-part-2 : tie.Need-add-paint-mask-part-2
+add-paint-mask-part-2 c =
+    let s = c .before .before .before .before .before in
+    omega (arith, at-most-bytes (s .args .d) (s .args .k + s .args .n) (s .pre .0 .low), s .pre .0 .fits, s .good .1 .1 .0 .0)
 
-paint-mask-requires : tie.Need-paint-mask-requires Inv-loop μ-loop
-paint-mask-requires c κs =
-    let s = c .before .before .before .before .before .before .before .before in
-    let l = c .before .before .before .before .loop in
-    (part _ _ (s .pre .0) (omega arith) (l .inv .1), part _ _ (s .pre .1 .0) (omega arith) (l .inv .1))
+paint-mask-part-requires : tie.Need-paint-mask-part-requires
+paint-mask-part-requires c κs =
+    let s = c .before .before .before .before .before in
+    (part (s .args .n % 8) (s .args .n / 8 * 8) (s .pre .0) (omega arith) (whole (c .before .before) .1), (omega arith, omega (arith, c .before .if2 .left), s .pre .1 .1))
 
-loop-again : tie.Need-loop-again Inv-loop μ-loop
-loop-again c =
-    let t = c .before .before .before .before .before in
-    let l = t .before .before .loop in
-    let a = t .before .before .before .before .before .before .args in
-    let whole : l .i % 8 ≡ 0 = l .inv .2 (omega arith) in
-    let few : t .at-most-8 .result ≤ 8 = omega arith in (
-      omega arith,
-      c .before .before .paint-mask .kept .0 ∙ l .inv .1,
-      λ h. omega arith,
-      painted-join _ _ _ _ _ _ _ _ _ (l .inv .3)
-          (painted-as (λ j b. mask-in-image (inkOf (a .fg)) (inkOf (a .bg)) (a .src .now) (a .from) (l .i) j whole (omega arith)) (c .before .before .paint-mask .ensures)),
-    )
+same-length-2 : tie.Need-same-length-2
+same-length-2 c = c .before .before .paint-mask-part .kept .1 .1 .0 ∙ whole (c .before .before .before .before .before) .1
 
-same-length : tie.Need-same-length Inv-loop μ-loop
-same-length c = c .before .loop .inv .1
-
-returns-2 : tie.Need-returns-2 Inv-loop μ-loop
+returns-2 : tie.Need-returns-2
 returns-2 c =
-    let e : c .before .loop .i ≡ c .before .before .before .before .before .args .n = omega arith in
-    painted-at e (c .before .loop .inv .3)
+    let s = c .before .before .before .before .before .before .before .before in
+    let e : s .args .n / 8 * 8 + s .args .n % 8 ≡ s .args .n = omega arith in
+    painted-at e
+    (painted-join _ _ _ (s .args .n / 8 * 8) (s .args .n % 8) _ _ _ _ (whole (c .before .before .before .before .before) .0)
+    (painted-as (λ j b. image-later _ _ (s .args .src .now) (s .args .from) (s .args .n / 8) j) (c .before .before .paint-mask-part .ensures)))
 
 pub paint-masks-spec : {M : Type 1} → statement M
 paint-masks-spec =
     tie.close
-    (tie.spec Inv-loop μ-loop returns loop-holds (λ c. omega arith) (λ c κs. tt) add-paint-mask (λ c. omega arith) (λ c. omega arith)
-    paint-mask-requires (λ c. omega arith) (λ c. omega arith) loop-again same-length returns-2)
+    (tie.spec paint-whole-masks-requires same-length returns (λ c. search needs) (λ c. search needs) add-paint-mask-part-2
+    paint-mask-part-requires same-length-2 returns-2)

@@ -1,51 +1,45 @@
--- `paint_run` meets its contract. The invariant: i pixels are painted. Assumes nothing.
-use borrow.Author.Needs.{needs}
-use Prim.Native.Nat.{_+_, _-_, _≤_}
-use mathlib.Core.Path.{_≡_, refl, _∙_}
-use lib.ListN.{length}
+-- `paint_run` meets its contract: one pixel, or as many as the ink's mode writes. Assumes nothing.
+use mathlib.Core.Path.{sym}
 use native.Mathlib.Omega.{arith}
-use Rattle.rle.specs.Painting.{Painted, inkOf}
-use Rattle.rle.proofs.Painting.{painted-none, painted-more, painted-at, at-most-bytes, part}
+use Rattle.rle.proofs.Painting.{painted-at, painted-one, front, far, painted-mode}
+use borrow.Author.Needs.{needs}
 use Rattle.rle.proofs.paint.paint_run.Statement.{statement}
 use Rattle.rle.proofs.paint.paint_run.Tie as tie
 
-abbrev Inv-loop : tie.InvT-loop
-Inv-loop dst₀ d w k n ink i₀ dst i = (i ≤ n) × (length dst ≡ length dst₀) × Painted d w (λ _. inkOf ink) k i dst₀ dst
+paint-pixel-requires : tie.Need-paint-pixel-requires
+paint-pixel-requires c κs = front 1 (c .before .before .before .pre) (omega arith)
 
-abbrev μ-loop : tie.MeasureT-loop
-μ-loop dst₀ d w k n ink i₀ dst i = n - i
+returns : tie.Need-returns
+returns c = painted-at (sym (c .before .before .before .before .if1 .taken)) (painted-one _ _ _ _ _ _ (c .before .before .paint-pixel .ensures))
 
-loop-holds : tie.Need-loop-holds Inv-loop μ-loop
-loop-holds c = (search needs, refl, painted-none)
+paint-above-requires : tie.Need-paint-above-requires
+paint-above-requires c κs =
+    let s = c .before .before .before .before .before .before in
+    (record { low = s .pre .low; high = s .pre .high; fits = s .pre .fits }, (s .pre .wide, far _ _ (c .before .enum-told2 .given .1) (s .pre .row)))
 
-add-paint-pixel : tie.Need-add-paint-pixel Inv-loop μ-loop
-add-paint-pixel c =
-    let s = c .before .before .before .before in
-    omega (arith, at-most-bytes (s .args .d) (s .args .k + s .args .n) (s .pre .low), s .pre .fits, s .good .0 .0)
+paint-xor-requires : tie.Need-paint-xor-requires
+paint-xor-requires c κs =
+    let s = c .before .before .before .before .before .before in
+    (record { low = s .pre .low; high = s .pre .high; fits = s .pre .fits }, (s .pre .wide, far _ _ (c .before .enum-told3 .given .1) (s .pre .row), s .pre .pixel))
 
-paint-pixel-requires : tie.Need-paint-pixel-requires Inv-loop μ-loop
-paint-pixel-requires c κs =
-    let s = c .before .before .before .before in
-    part 1 _ (s .pre) (omega arith) (c .before .before .loop .inv .1)
+returns-2 : tie.Need-returns-2
+returns-2 c =
+    let told = c .before .before .before .before in
+    painted-mode (told .before .before .before .before .before .args .ink) (told .enum-told .given .1) (c .before .before .paint-color .ensures)
 
-loop-again : tie.Need-loop-again Inv-loop μ-loop
-loop-again c =
-    let l = c .before .before .before .before .before .loop in (
-      omega arith,
-      c .before .before .paint-pixel .kept .0 ∙ l .inv .1,
-      painted-more _ _ _ _ _ _ _ _ (l .inv .2) (c .before .before .paint-pixel .ensures),
-    )
+returns-3 : tie.Need-returns-3
+returns-3 c =
+    let told = c .before .before .before .before in
+    painted-mode (told .before .before .before .before .before .args .ink) (told .enum-told2 .given .1) (c .before .before .paint-above .ensures)
 
-same-length : tie.Need-same-length Inv-loop μ-loop
-same-length c = c .before .loop .inv .1
-
-returns : tie.Need-returns Inv-loop μ-loop
-returns c =
-    let e : c .before .loop .i ≡ c .before .before .before .args .n = omega arith in
-    painted-at e (c .before .loop .inv .2)
+returns-4 : tie.Need-returns-4
+returns-4 c =
+    let told = c .before .before .before .before in
+    painted-mode (told .before .before .before .before .before .args .ink) (told .enum-told3 .given .1) (c .before .before .paint-xor .ensures)
 
 pub paint-run-spec : {M : Type 1} → statement M
 paint-run-spec =
     tie.close
-    (tie.spec Inv-loop μ-loop loop-holds add-paint-pixel paint-pixel-requires (λ c. omega arith) (λ c. omega arith) loop-again
-    same-length returns)
+    (tie.spec paint-pixel-requires (λ c. search needs) returns (λ c. search needs) (λ c κs. search needs) (λ c. search needs)
+    paint-above-requires (λ c. search needs) paint-xor-requires (λ c. search needs) returns-2 (λ c. search needs) returns-3
+    (λ c. search needs) returns-4)

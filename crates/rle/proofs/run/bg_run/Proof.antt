@@ -3,7 +3,7 @@ use mathlib.Core.Path.{refl}
 use native.Mathlib.Omega.{arith}
 use Rattle.definition.specs.Orders.{BgRun}
 use Rattle.definition.specs.Plan.{countsOf, kindInk, leaves, insertIn, foregroundIn}
-use Rattle.rle.proofs.Inks.{row-reach, insert-inks}
+use Rattle.rle.proofs.Inks.{row-reach, insert-inks, black-of-depth}
 use Rattle.rle.proofs.Orders.{within, fits, executes-finished, paintable}
 use borrow.Author.Needs.{needs}
 use Rattle.rle.proofs.run.bg_run.Statement.{statement}
@@ -15,7 +15,7 @@ paint-bg-run-requires c κs =
     let t = c .before .before .before in
     let s = t .before .before .before .before in
     let w = within (s .pre) BgRun 0 (t .plan-run .result) (t .plan-run .ensures) in
-    (rw (c .before .fg-ink .ensures) (paintable (s .args .dst .now) _ (s .pre) (w .pixels) _ (row-reach _ (s .pre .invariant)) (s .pre .invariant .foreground)), rw (c .bg-ink .ensures) (paintable (s .args .dst .now) _ (s .pre) (w .pixels) _ (row-reach _ (s .pre .invariant)) (s .pre .frame .black)))
+    (rw (c .before .fg-ink .ensures) (paintable (s .args .dst .now) _ (s .pre) (w .pixels) _ (row-reach _ (s .pre .invariant)) (s .pre .invariant .foreground)), rw (c .bg-ink .ensures) (paintable (s .args .dst .now) _ (s .pre) (w .pixels) _ (row-reach _ (s .pre .invariant)) (black-of-depth (s .pre .frame))))
 
 finished-requires : tie.Need-finished-requires
 unfolding countsOf

@@ -3,7 +3,7 @@ use mathlib.Core.Path.{refl}
 use native.Mathlib.Omega.{arith}
 use Rattle.definition.specs.Orders.{DitheredRun}
 use Rattle.definition.specs.Plan.{countsOf, kindInk, leaves, insertIn, foregroundIn}
-use Rattle.rle.proofs.Orders.{within, fits, operands-read, executes-finished, has-place}
+use Rattle.rle.proofs.Orders.{within, fits, operands-read, pairs-even, executes-finished, has-place}
 use borrow.Author.Needs.{needs}
 use Rattle.rle.proofs.run.dithered_run.Statement.{statement}
 use Rattle.rle.proofs.run.dithered_run.Tie as tie
@@ -14,7 +14,7 @@ paint-dithered-run-requires c κs =
     let t = c .before in
     let s = t .before .before .before .before .before .before in
     let w = within (s .pre .0) DitheredRun _ (t .plan-dithered-run .result) (t .plan-dithered-run .ensures) in
-    (has-place (s .args .dst .now) _ (s .pre .0) (w .pixels), λ h. omega (arith, operands-read _ (t .plan-dithered-run .result) _ _ (t .plan-dithered-run .ensures) h))
+    (has-place (s .args .dst .now) _ (s .pre .0) (w .pixels), (λ h. omega (arith, operands-read _ (t .plan-dithered-run .result) _ _ (t .plan-dithered-run .ensures) h), pairs-even _ (t .plan-dithered-run .result) _ _ _ _ (t .plan-dithered-run .ensures)))
 
 finished-requires : tie.Need-finished-requires
 unfolding countsOf

@@ -9,6 +9,7 @@ use Rattle.rle.proofs.Painting.{painted-as, turn-pixel}
 use Rattle.rle.proofs.Numbers.{pixel-plans}
 use Rattle.rle.proofs.Orders.{within, fits, executes-finished, has-place}
 use Rattle.rle.proofs.Sharing.{pixel-leaves, pixel-few, pixel-ink}
+use Rattle.rle.proofs.Inks.{black-of-depth}
 use borrow.Author.Needs.{needs}
 use Rattle.rle.proofs.run.one_pixel.Statement.{statement}
 use Rattle.rle.proofs.run.one_pixel.Tie as tie
@@ -20,7 +21,7 @@ paint-single-requires c κs =
     let white = eqb (s .args .kind) 10 in
     let w = within (s .pre) (pixelKind (s .args .kind)) 0 (t .plan-one-pixel .result) (t .plan-one-pixel .ensures ∙ pixel-plans _ 0 _ (ltb 11 (s .args .kind)) (eqb (s .args .kind) 10)) in (
       has-place (s .args .dst .now) _ (s .pre) (w .pixels),
-      (pixel-few (frameOf (s .args .f)) _ (ltb 11 (s .args .kind)) (t .plan-one-pixel .result) (t .plan-one-pixel .ensures), rw (c .white-or-black .ensures) (turn-pixel _ _ _ white (s .pre .frame .white) (s .pre .frame .black))),
+      (pixel-few (frameOf (s .args .f)) _ (ltb 11 (s .args .kind)) (t .plan-one-pixel .result) (t .plan-one-pixel .ensures), rw (c .white-or-black .ensures) (turn-pixel _ _ _ white (s .pre .frame .white) (black-of-depth (s .pre .frame)))),
     )
 
 finished-requires : tie.Need-finished-requires
