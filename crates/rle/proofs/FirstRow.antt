@@ -63,12 +63,15 @@ module _ (f : CodeFrame) (s : CodeState) where
         counted = invariant .counted;
       }
 
+-- a second time it changes nothing
+pub row-again : (f : CodeFrame) (s : CodeState) → firstRowEnded f (firstRowEnded f s) ≡ firstRowEnded f s
+row-again f s = row-stays f (firstRowEnded f s) (row-begun f s)
+
 -- an order begins with it, so it may have come before
 pub step-marked : (f : CodeFrame) (s : CodeState) (src dst : List ℕ)
     → step (frameOf f) (stateOf (frameOf f) src dst (firstRowEnded f s)) ≡ step (frameOf f) (stateOf (frameOf f) src dst s)
 unfolding step
 step-marked f s src dst =
     let t = firstRowEnded f s in
-    let again = row-stays f t (row-begun f s) in
     ap (λ (x : State). orderFrom (frameOf f) x (headOf (drop (s .pos) src)))
-    (sym (mark-is f t src dst) ∙ ap (λ (x : CodeState). stateOf (frameOf f) src dst x) again ∙ mark-is f s src dst)
+    (sym (mark-is f t src dst) ∙ ap (λ (x : CodeState). stateOf (frameOf f) src dst x) (row-again f s) ∙ mark-is f s src dst)

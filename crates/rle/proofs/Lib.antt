@@ -6,9 +6,12 @@ pub mod Heads
 pub mod Inks
 pub mod Orders
 pub mod Sharing
+pub mod Operands
 pub mod FirstRow
 pub mod Stream
 pub mod Walks
 pub mod Calls
 pub mod Counting
 pub mod Theorems
+pub mod Writers
+pub mod Parts

@@ -95,7 +95,7 @@ module _ (D n a R : ℕ) where
       (eq-or-lt-of-le {m = 8} (omega arith)))
       (eq-or-lt-of-le h)
 
-none : {A : Type 0} (a : A) (n i : ℕ) → getD (replicate n a) i a ≡ a
+pub none : {A : Type 0} (a : A) (n i : ℕ) → getD (replicate n a) i a ≡ a
 none a zero i = refl
 none a (suc n) zero = refl
 none a (suc n) (suc i) = none a n i

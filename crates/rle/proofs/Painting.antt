@@ -3,26 +3,27 @@ use mathlib.Core.Path.{_≡_, refl, ap, sym, _∙_, subst}
 use mathlib.Core.List.{List, [], _∷_, _++_}
 use mathlib.Core.Bool.{Bool, true, false}
 use Prim.Native.Nat.{ℕ, _+_, _*_, _-_, _/_, _%_, _^_, _≤_, _<_, zero-le}
-use native.Mathlib.Nat.{add-zero, div-one, div-div-eq-div-mul, pow-suc, mul-le-mul-right, mul-le-mul-left}
+use native.Mathlib.Nat.{add-zero, add-assoc, mul-le-mul-right, mul-le-mul-left}
 use native.Mathlib.Numerals.{add-one}
 use native.Mathlib.Omega.{arith}
 use lib.Dec.{ltb, eqb}
 use borrow.Author.Tests.{ne-eqb}
 use lib.Bits.{bitXor}
-use lib.ListN.{length, getD, drop}
+use lib.ListN.{length, getD, take, drop, take-append-drop}
 use lib.Seq.{drop-drop, getD-drop}
 use Rattle.rle.specs.declared.paint.Mode.{Mode}
 use Rattle.rle.specs.declared.paint.Mode.the-variants.{Solid, Above, AboveXor}
 use Rattle.rle.specs.declared.paint.Ink.{Ink as CodeInk}
 use Rattle.base.specs.Picks.{pick}
-use Rattle.picture.specs.Pixels.{Pixel, firstPixel, pixelAt, xorPixel, OfDepth}
-use Rattle.definition.specs.Decode.{Ink, solid, color, paint, pixelAbove, insertInk, maskInk, ditherInk}
+use Rattle.base.proofs.Tests.{clash}
+use Rattle.picture.specs.Pixels.{Pixel, firstPixel, pixelAt, bytesOf, xorPixel, OfDepth}
+use Rattle.definition.specs.Decode.{Ink, solid, color, paint, pixelAbove, fgInk, bgInk, insertInk, maskInk, ditherInk}
 use Rattle.definition.specs.Plan.{imageInk}
 use Rattle.rle.specs.Stored.{pixelsOf, storePixel}
-use Rattle.rle.specs.Painting.{HasPlace, Paintable, PaintedOne, Painted, reach, inkOf, solidInk}
+use Rattle.rle.specs.Painting.{HasPlace, Paintable, PaintedOne, MaskInks, Painted, ofMode, isSolid, reach, inkOf, solidInk}
 use Rattle.picture.proofs.Pixels.{first-pixel-cong, getD-first-pixel, length-first-pixel}
 use Rattle.definition.proofs.Painting.{paint-cong, paint-add}
-use Rattle.rle.proofs.Pixels.{length-pixelsOf, getD-pixelsOf, store-before, store-there, store-after}
+use Rattle.rle.proofs.Pixels.{length-pixelsOf, getD-pixelsOf, store-before, store-there, store-after, bytes-pixels}
 
 -- ---- colors have their unused bytes zero
 
@@ -37,7 +38,7 @@ xor-pick : (t : Bool) (a b : ℕ) → pick t a 0 ≡ a → pick t b 0 ≡ b → 
 xor-pick true a b p q = refl
 xor-pick false a b p q = λ i. bitXor (p i) (q i)
 
-of-depth-xor : (D : ℕ) (a b : Pixel) → OfDepth D a → OfDepth D b → OfDepth D (xorPixel a b)
+pub of-depth-xor : (D : ℕ) (a b : Pixel) → OfDepth D a → OfDepth D b → OfDepth D (xorPixel a b)
 unfolding firstPixel xorPixel
 of-depth-xor D a b p q = λ i.
     bitXor (getD a 0 0) (getD b 0 0)
@@ -48,7 +49,7 @@ of-depth-xor D a b p q = λ i.
 -- ---- one pixel
 
 -- the pixel above pixel k, in the bytes
-above-is : (D w k : ℕ) (xs : List ℕ) → 1 ≤ w → w ≤ k → pixelAbove w (pixelsOf D k xs) ≡ pixelAt D xs (k - w)
+pub above-is : (D w k : ℕ) (xs : List ℕ) → 1 ≤ w → w ≤ k → pixelAbove w (pixelsOf D k xs) ≡ pixelAt D xs (k - w)
 unfolding pixelAbove
 above-is D w k xs h b = rw length-pixelsOf (getD-pixelsOf D k xs (k - w) (0 ∷ 0 ∷ 0 ∷ []) (omega arith))
 
@@ -140,6 +141,11 @@ one-as {D} {w} {k} {i} {j} {xs} {ys} e p = subst (λ (x : Ink). PaintedOne D w x
 pub painted-as : {D w k n : ℕ} {i j : ℕ → Ink} {xs ys : List ℕ} → ((m : ℕ) → m < n → i m ≡ j m) → Painted D w i k n xs ys → Painted D w j k n xs ys
 painted-as {D} {w} {k} {n} {i} {j} {xs} e p = record { pixels = p .pixels ∙ paint-cong w i j n (pixelsOf D k xs) e; rest = p .rest }
 
+-- the ink of a mode that is known
+pub painted-mode : {D w k n : ℕ} {mode : Mode} {xs ys : List ℕ} (i : CodeInk) → i .mode ≡ mode → Painted D w (λ _. ofMode mode (i .pixel)) k n xs ys
+    → Painted D w (λ _. inkOf i) k n xs ys
+painted-mode i e p = painted-as (λ j b. ap (λ (m : Mode). ofMode m (i .pixel)) (sym e)) p
+
 pub painted-join : (D w k m n : ℕ) (ink : ℕ → Ink) (xs ys zs : List ℕ) → Painted D w ink k m xs ys
     → Painted D w (λ j. ink (m + j)) (k + m) n ys zs → Painted D w ink k (m + n) xs zs
 painted-join D w k m n ink xs ys zs p q =
@@ -158,6 +164,22 @@ painted-join D w k m n ink xs ys zs p q =
 pub painted-one : (D w k : ℕ) (ink : ℕ → Ink) (xs ys : List ℕ) → PaintedOne D w (ink 0) k xs ys → Painted D w ink k 1 xs ys
 unfolding paint
 painted-one D w k ink xs ys o = record { pixels = o .pixels; rest = o .rest }
+
+-- two targets that held the same, and are painted the same, hold the same
+pub painted-same : {D w k n : ℕ} {ink : ℕ → Ink} {before₁ after₁ before₂ after₂ : List ℕ} → HasPlace D k n before₁ → before₁ ≡ before₂
+    → length after₁ ≡ length before₁ → length after₂ ≡ length before₂
+    → Painted D w ink k n before₁ after₁ → Painted D w ink k n before₂ after₂ → after₁ ≡ after₂
+painted-same {D} {w} {k} {n} {ink} {before₁} {after₁} {before₂} {after₂} place e l₁ l₂ p q =
+    let m = (k + n) * D in
+    let pixels : pixelsOf D (k + n) after₁ ≡ pixelsOf D (k + n) after₂ =
+    p .pixels ∙ ap (λ (l : List ℕ). paint w ink n (pixelsOf D k l)) e ∙ sym (q .pixels) in
+    let fits : m ≤ length after₂ = rw (l₂, ← e) (place .fits) in
+    let front : take m after₁ ≡ take m after₂ =
+    sym (bytes-pixels D (k + n) after₁ (place .high) (rw l₁ (place .fits)))
+    ∙ ap (λ (ps : List Pixel). bytesOf D ps) pixels
+    ∙ bytes-pixels D (k + n) after₂ (place .high) fits in
+    let back : drop m after₁ ≡ drop m after₂ = p .rest ∙ ap (λ (l : List ℕ). drop m l) e ∙ sym (q .rest) in
+    sym (take-append-drop m after₁) ∙ (λ i. front i ++ back i) ∙ take-append-drop m after₂
 
 -- ---- where pixels can be painted
 
@@ -213,13 +235,35 @@ insert-later false fg bg j = refl
 
 -- ---- masks and turns
 
+-- masks that look at the row above find it there
+pub mask-row : {D w k n : ℕ} {xs : List ℕ} (i : CodeInk) → Paintable D w k n xs i → isSolid (i .mode) ≡ false → (w ≤ k) × (w * D ≤ k * D)
+mask-row {D} {w} {k} i place e = let h = go (i .mode) e (place .row) in (h, mul-le-mul-right {m = w} {n = k} D h)
+  where
+    go : (m : Mode) → isSolid m ≡ false → reach m w ≤ k → w ≤ k
+    go Solid f h = clash refl f
+    go Above f h = h
+    go AboveXor f h = h
+
+-- the inks of the bits are the code's
+pub painted-by-masks : {D w k n : ℕ} {xs ys : List ℕ} {fg bg : CodeInk} {first : Bool} → MaskInks fg bg → first ≡ isSolid (fg .mode) → (masks : List ℕ)
+    → Painted D w (imageInk (fgInk first (fg .pixel)) (bgInk first (0 ∷ 0 ∷ 0 ∷ [])) masks) k n xs ys → Painted D w (imageInk (inkOf fg) (inkOf bg) masks) k n xs ys
+painted-by-masks {fg = fg} inks e masks p =
+    painted-as
+    (λ j b. (λ t. imageInk (fgInk (e t) (fg .pixel)) (bgInk (e t) (0 ∷ 0 ∷ 0 ∷ [])) masks j) ∙ (λ t. imageInk (sym (inks .one) t) (sym (inks .zero) t) masks j)) p
+
+-- a mask's pixels, then those of the masks behind it
+pub image-later : (fg bg : Ink) (src : List ℕ) (from m j : ℕ) → imageInk fg bg (drop (from + m) src) j ≡ imageInk fg bg (drop from src) (m * 8 + j)
+unfolding imageInk
+image-later fg bg src from m j =
+    let q : m + j / 8 ≡ (m * 8 + j) / 8 = omega arith in
+    let r : j % 8 ≡ (m * 8 + j) % 8 = omega arith in
+    let mask =
+    getD-drop (from + m) src (j / 8) 0
+    ∙ ap (λ (i : ℕ). getD src i 0) (add-assoc from m (j / 8) ∙ ap (λ (i : ℕ). from + i) q)
+    ∙ sym (getD-drop from src ((m * 8 + j) / 8) 0) in
+    λ t. maskInk fg bg (mask t) (r t)
+
 -- a mask's bits, one after the other
-pub mask-none : (m : ℕ) → m ≡ m / 2 ^ 0
-mask-none m = sym (div-one m)
-
-pub mask-more : (m a i : ℕ) → a ≡ m / 2 ^ i → a / 2 ≡ m / 2 ^ (i + 1)
-mask-more m a i e = rw (e, add-one, pow-suc) (div-div-eq-div-mul m (2 ^ i) 2)
-
 pub mask-ink : (fg bg : Ink) (m a i : ℕ) → a ≡ m / 2 ^ i → pick (eqb (a % 2) 1) fg bg ≡ maskInk fg bg m i
 unfolding maskInk
 mask-ink fg bg m a i e = rw e

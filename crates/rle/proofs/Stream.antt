@@ -109,14 +109,16 @@ module _ (f : Frame) (src dst₀ dst : List ℕ) (s : CodeState) (between : Betw
       rest : drop (r .state .pixels * f .bytes) after ≡ drop (r .state .pixels * f .bytes) dst₀
       rest = executes .rest ∙ rest-later (f .bytes) (s .pixels) (r .state .pixels) dst dst₀ (executes .grows) (between .rest)
 
-      pub between-refused : (limit : ℕ) (e : RleError) → r .ending ≡ Refused e → decodedTo (r .ending) limit f src dst₀ after r
-      between-refused limit e p =
-          subst (λ (a : CodeEnding). decodedTo a limit f src dst₀ after r) (sym p)
-          (record {
+      pub decodes-refused : (e : RleError) → r .ending ≡ Refused e → Decodes f src dst₀ after r
+      decodes-refused e p =
+          record {
             is = continues-refused (between .continues) more (endingIn (r .ending)) (stateOf f src after (r .state)) (executes .is) (ap endingIn p);
             rest = rest;
             invariant = executes .invariant;
-          })
+          }
+
+      pub between-refused : (limit : ℕ) (e : RleError) → r .ending ≡ Refused e → decodedTo (r .ending) limit f src dst₀ after r
+      between-refused limit e p = subst (λ (a : CodeEnding). decodedTo a limit f src dst₀ after r) (sym p) (decodes-refused e p)
 
       pub between-on : r .ending ≡ Complete → s .pos < r .state .pos → length after ≡ length dst → BetweenOrders f src dst₀ after (r .state)
       between-on p h k =

@@ -15,7 +15,7 @@ use Rattle.picture.specs.Sizes.{Refusal, Checked, refused, accepted, checked, w
 use Rattle.definition.specs.Decode.{Result, ofChecked, result, resultIn, Summary}
 use Rattle.picture.specs.Outcomes.{refusalIn}
 use Rattle.rle.specs.Report.{Agrees, Decompresses}
-use Rattle.rle.specs.Guarantees.{spaceFor, HasSpace, Defined, NoOldByte, isOk}
+use Rattle.rle.specs.Guarantees.{spaceFor, HasSpace, Defined, NoOldByte, SameDecoding, isOk}
 
 space-is : (given : ℕ) (c : Checked) → spaceFor given c → withSpace given c ≡ c
 unfolding withSpace
@@ -58,6 +58,20 @@ no-old-byte src bpp w h before₁ after₁ r₁ before₂ after₂ r₂ d₁ d�
       painted = a .painted ∙ sym (b .painted);
       first = a;
       second = b;
+    }
+
+-- the contract settles report and bytes
+pub same-decoding : (src : List ℕ) (bpp w h : ℕ) (before₁ after₁ : List ℕ) (r₁ : Report) (before₂ after₂ : List ℕ) (r₂ : Report)
+    → Decompresses src bpp w h before₁ after₁ r₁ → Decompresses src bpp w h before₂ after₂ r₂
+    → SameDecoding src bpp w h before₁ after₁ r₁ before₂ after₂ r₂
+same-decoding src bpp w h before₁ after₁ r₁ before₂ after₂ r₂ d₁ d₂ =
+    let same : before₁ ≡ before₂ → Decompresses src bpp w h before₁ after₂ r₂ =
+    λ e. subst (λ (l : List ℕ). Decompresses src bpp w h l after₂ r₂) (sym e) d₂ in
+    record {
+      first = d₁;
+      second = d₂;
+      report = λ e. d₁ .report ∙ sym (same e .report);
+      target = λ e. d₁ .target ∙ sym (same e .target);
     }
 
 -- a call answers Ok exactly where the definition refused nothing

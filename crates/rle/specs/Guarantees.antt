@@ -1,5 +1,5 @@
 -- What the contract of `decompress` amounts to, over all streams, depths, sizes and targets. The theorems are in
--- proofs/Theorems.antt; the crate two_targets has the second of them as the contract of two calls.
+-- proofs/Theorems.antt; the crate two_targets has the second of them as the contract of two calls, and two_decoders the third.
 use mathlib.Core.Path.{_≡_}
 use mathlib.Core.List.{List}
 use mathlib.Core.Bool.{Bool, true, false}
@@ -11,7 +11,7 @@ use Rattle.picture.specs.declared.outcome.Outcome.the-variants.{Ok, Err}
 use Rattle.picture.specs.Pixels.{bytesOf}
 use Rattle.picture.specs.Sizes.{Checked, refused, accepted, checked}
 use Rattle.definition.specs.Decode.{result, summaryOf}
-use Rattle.rle.specs.Report.{summaryIn}
+use Rattle.rle.specs.Report.{summaryIn, Decompresses}
 
 -- a target of `given` bytes has space for the picture; where refusal 1, 2 or 3 comes, every target has
 abbrev pub spaceFor : ℕ → Checked → Type 0
@@ -36,6 +36,14 @@ pub record NoOldByte (src : List ℕ) (bpp w h : ℕ) (before₁ after₁ : List
   pub painted : take (r₁ .pixels * result src bpp w h .bytes) after₁ ≡ take (r₂ .pixels * result src bpp w h .bytes) after₂
   pub first : Defined src bpp w h before₁ after₁ r₁
   pub second : Defined src bpp w h before₂ after₂ r₂
+
+-- two calls with one stream, depth and size, of one decoder or of two with this contract: targets that held the same bytes hold the
+-- same then, and the reports say the same
+pub record SameDecoding (src : List ℕ) (bpp w h : ℕ) (before₁ after₁ : List ℕ) (r₁ : Report) (before₂ after₂ : List ℕ) (r₂ : Report) : Type 0 where
+  pub first : Decompresses src bpp w h before₁ after₁ r₁
+  pub second : Decompresses src bpp w h before₂ after₂ r₂
+  pub report : before₁ ≡ before₂ → summaryIn r₁ ≡ summaryIn r₂
+  pub target : before₁ ≡ before₂ → after₁ ≡ after₂
 
 abbrev pub isOk : Outcome → Bool
 isOk (Ok k) = true

@@ -6,5 +6,6 @@ pub mod Planning
 pub mod Painting
 pub mod States
 pub mod Orders
+pub mod Operands
 pub mod Walks
 pub mod Reporting

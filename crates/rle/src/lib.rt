@@ -12,6 +12,7 @@ pub(crate) mod image;
 pub(crate) mod order;
 pub(crate) mod paint;
 pub(crate) mod pixel;
+pub mod plain;
 pub(crate) mod plan;
 pub mod report;
 pub(crate) mod run;
