@@ -109,8 +109,10 @@ fn time_same(side: usize, bytes: &[Vec<u8>; 4], palette: &[u8], rounds: usize) {
         let repeat = |same: &dyn Fn() -> bool| (0..calls).for_each(|_| assert!(same()));
         let times = fastest(
             rounds,
-            || repeat(&|| same_by_memcmp(black_box(a.bytes), black_box(b.bytes))),
-            || repeat(&|| same_picture(black_box(&a), black_box(&b), palette)),
+            [
+                &mut || repeat(&|| same_by_memcmp(black_box(a.bytes), black_box(b.bytes))),
+                &mut || repeat(&|| same_picture(black_box(&a), black_box(&b), palette)),
+            ],
         );
         show(bpp, "call", calls, times);
     }
@@ -123,8 +125,10 @@ fn time_expansion(bytes: &[Vec<u8>; 4], palette: &[u8], rounds: usize) {
         let picture = square(bytes, SIDE, bpp);
         let times = fastest(
             rounds,
-            || plain_expand(black_box(&picture), palette, &mut plain),
-            || library_expand(black_box(&picture), size, palette, &mut library),
+            [
+                &mut || plain_expand(black_box(&picture), palette, &mut plain),
+                &mut || library_expand(black_box(&picture), size, palette, &mut library),
+            ],
         );
         assert!(plain == library, "the expansions differ at {bpp} bpp");
         show(bpp, "pixel", PIXELS, times);

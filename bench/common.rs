@@ -30,12 +30,14 @@ fn seconds(call: impl FnOnce()) -> f64 {
     start.elapsed().as_secs_f64()
 }
 
-/// Seconds of two calls, each in its fastest round. They take turns, so that both see the machine
-/// in the same state.
-pub fn fastest(rounds: usize, mut one: impl FnMut(), mut other: impl FnMut()) -> [f64; 2] {
-    (0..rounds)
-        .map(|_| [seconds(&mut one), seconds(&mut other)])
-        .fold([f64::MAX; 2], |best, now| {
-            [best[0].min(now[0]), best[1].min(now[1])]
-        })
+/// Seconds of each call in its fastest round. They take turns, so that all see the machine in the
+/// same state.
+pub fn fastest<const N: usize>(rounds: usize, mut calls: [&mut dyn FnMut(); N]) -> [f64; N] {
+    let mut best = [f64::MAX; N];
+    for _ in 0..rounds {
+        for (best, call) in best.iter_mut().zip(&mut calls) {
+            *best = best.min(seconds(call));
+        }
+    }
+    best
 }

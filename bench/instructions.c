@@ -1,6 +1,7 @@
 /*
- * Counts the instructions that one order takes, with callgrind: a stream of
- * many equal orders less a stream of half as many, divided by the difference.
+ * Counts the instructions that one order takes by the run writers and by the
+ * plain loop, with callgrind: a stream of many equal orders less a stream of
+ * half as many, divided by the difference.
  * The rows have 1024 pixels. `bench/run instructions` builds it, runs it under
  * valgrind and prints the table.
  */
@@ -68,47 +69,81 @@ static size_t put_order(uint8_t *s, size_t at, const order *o, size_t n, size_t 
 static uint8_t stream[(MANY + 1) * (LONGEST * 3 + 16)];
 static uint8_t target[WIDTH * HEIGHT * 3];
 
+/* From libplain_library.a: returns the pixels painted. */
+size_t nulambiro_plain_decompress(const uint8_t *src, size_t src_len, uint8_t *dst, size_t dst_len,
+                                  size_t width, size_t height, size_t bpp);
+
+static size_t by_run_writers(const uint8_t *src, size_t src_len, uint8_t *dst, size_t dst_len,
+                             size_t width, size_t height, size_t bpp) {
+  uint64_t report[NULAMBIRO_REPORT_PLACES];
+  nulambiro_decompress(src, src_len, dst, dst_len, width, height, bpp, report);
+  return report[NULAMBIRO_PIXELS];
+}
+
+typedef struct {
+  const char *name;
+  size_t (*decode)(const uint8_t *, size_t, uint8_t *, size_t, size_t, size_t, size_t);
+} decoder;
+
+static const decoder DECODERS[] = {
+    {"run writers", by_run_writers},
+    {"plain loop", nulambiro_plain_decompress},
+};
+
+/* How many pixels an order paints. */
+static size_t pixels_of(const order *o, size_t n) {
+  return o->mega_mega == 0xF9 ? 8 : o->operands == TWO_PIXELS ? 2 * n : n;
+}
+
 /* Decodes `count` orders, in the first row or behind it, and has callgrind
  * write down the instructions. */
-static void count_orders(const order *o, size_t n, size_t bpp, int later, size_t count) {
+static void count_orders(const decoder *by, const order *o, size_t n, size_t bpp, int later,
+                         size_t count) {
   static const order FIRST = {"", 0x60, 31, 1, 0xF3, ONE_PIXEL};
-  uint64_t report[NULAMBIRO_REPORT_PLACES];
-  size_t d = (bpp + 7) / 8, length = 0, i;
+  size_t d = (bpp + 7) / 8, length = 0, due = count * pixels_of(o, n), painted, i;
   /* Without a row behind it the first row is as long as all orders. */
   size_t width = later ? WIDTH : 8192, height = later ? HEIGHT : 128;
   char label[80];
-  if (later)
+  if (later) {
     length = put_order(stream, length, &FIRST, WIDTH, d);
+    due += WIDTH;
+  }
   for (i = 0; i < count; i++)
     length = put_order(stream, length, o, n, d);
   CALLGRIND_ZERO_STATS;
   CALLGRIND_TOGGLE_COLLECT;
-  nulambiro_decompress(stream, length, target, sizeof target, width, height, bpp, report);
+  painted = by->decode(stream, length, target, sizeof target, width, height, bpp);
   CALLGRIND_TOGGLE_COLLECT;
-  if (report[NULAMBIRO_REFUSAL] != 0) {
-    fprintf(stderr, "%s, %zu pixels: refusal %d\n", o->name, n, (int)report[NULAMBIRO_REFUSAL]);
+  if (painted != due) {
+    fprintf(stderr, "%s, %s of %zu: %zu pixels for %zu\n", by->name, o->name, n, painted, due);
     exit(1);
   }
-  snprintf(label, sizeof label, "%zu;%s;%s;%zu;%zu", bpp, later ? "later" : "first", o->name, n, count);
+  snprintf(label, sizeof label, "%zu;%s;%s;%s;%zu;%zu", bpp, later ? "later" : "first", o->name, by->name, n,
+           count);
   CALLGRIND_DUMP_STATS_AT(label);
+}
+
+/* Counts an order of each length. */
+static void count_lengths(const decoder *by, const order *o, size_t bpp, int later) {
+  /* White, black, F9 and FA have no length. */
+  size_t lengths = o->mega_mega >= 0xF9 ? 1 : sizeof LENGTHS / sizeof LENGTHS[0], l;
+  for (l = 0; l < lengths; l++) {
+    size_t n = LENGTHS[l];
+    /* In the first row, what it has room for. */
+    size_t many = later ? MANY : 8192 / (2 * n) < MANY ? 8192 / (2 * n) : MANY;
+    count_orders(by, o, n, bpp, later, many);
+    count_orders(by, o, n, bpp, later, many / 2);
+  }
 }
 
 int main(void) {
   static const size_t DEPTHS[] = {8, 16, 24};
-  size_t b, o, l;
+  size_t b, o, by;
   int later;
   for (later = 1; later >= 0; later--)
     for (b = 0; b < 3; b++)
       for (o = 0; o < sizeof ORDERS / sizeof ORDERS[0]; o++)
-        for (l = 0; l < sizeof LENGTHS / sizeof LENGTHS[0]; l++) {
-          size_t n = LENGTHS[l];
-          int special = ORDERS[o].mega_mega >= 0xF9;
-          /* In the first row, what it has room for. */
-          size_t many = later ? MANY : 8192 / (2 * n) < MANY ? 8192 / (2 * n) : MANY;
-          if (special && l > 0)
-            continue;
-          count_orders(&ORDERS[o], n, DEPTHS[b], later, many);
-          count_orders(&ORDERS[o], n, DEPTHS[b], later, many / 2);
-        }
+        for (by = 0; by < 2; by++)
+          count_lengths(&DECODERS[by], &ORDERS[o], DEPTHS[b], later);
   return 0;
 }

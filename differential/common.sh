@@ -1,7 +1,8 @@
 # shellcheck shell=bash
 # Sourced by the scripts that build programs over the library, some of them beside IronRDP's rle.rs.
 #
-# NULAMBIRO_LIB_DIR  the folder of libnulambiro.a; without it, target/staticlib
+# NULAMBIRO_LIB_DIR  the folder of libnulambiro.a, and of libplain_library.a where the bench needs
+#                    it; without it, target/staticlib
 # RLE_RS             the rle.rs to compare with, crates/ironrdp-graphics/src/rle.rs of IronRDP at
 #                    commit 7793f5232a; without it, one that is found beside the repository
 root=$(cd "$(dirname "${BASH_SOURCE[0]}")/.." && pwd)
@@ -27,9 +28,12 @@ require_command() {
   done
 }
 
+# Ends the script where the library of one of the crates named is missing.
 require_library() {
-  [ -f "$library/libnulambiro.a" ] ||
-    fail "$library/libnulambiro.a is missing: run 'rt staticlib nulambiro'"
+  local crate
+  for crate in "$@"; do
+    [ -f "$library/lib$crate.a" ] || fail "$library/lib$crate.a is missing: run 'rt staticlib $crate'"
+  done
 }
 
 # Prints the path of rle.rs: the one that RLE_RS names, or the first of a checkout of IronRDP in a
@@ -63,9 +67,16 @@ build() {
 
 # The package over the library.
 build_nulambiro() {
-  require_library
+  require_library nulambiro
   rustc --edition 2021 -O --crate-type rlib --crate-name nulambiro "$root/rust/src/lib.rs" \
     -L native="$library" -l static=nulambiro -o "$1"
+}
+
+# The plain decoder.
+build_plain() {
+  require_library plain_library
+  rustc --edition 2021 -O --crate-type rlib --crate-name plain "$root/bench/plain.rs" \
+    -L native="$library" -l static=plain_library -o "$1"
 }
 
 # rle.rs as it is; what the compiler thinks of it is no concern here.
