@@ -3,6 +3,7 @@
 
 mod refusals;
 mod rle_module;
+mod runs;
 mod targets;
 mod tiles;
 
