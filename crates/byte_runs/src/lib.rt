@@ -4,7 +4,8 @@ ghost use Prim.Native.Nat.{_*_};
 ghost use lib.Dec.{leb};
 ghost use Rattle.byte_runs.specs.Runs.{both, isDepth};
 
-// Whether n pixels of d bytes have a place in `room` bytes. The room is divided by the depth, since n could wrap when multiplied by it.
+// Whether n pixels of d bytes have a place in `room` bytes. The room is halved, since n could wrap when multiplied by the depth; three
+// bytes are one and two, since a division by three takes longer.
 pub fn pixels_fit(d: usize, n: usize, room: usize) -> bool
     ensures { λ r. ⌜ r ≡ both (isDepth d) (leb (n * d) room) ⌝ }
 {
@@ -15,7 +16,10 @@ pub fn pixels_fit(d: usize, n: usize, room: usize) -> bool
         return n <= room / 2;
     }
     if d == 3 {
-        return n <= room / 3;
+        if room < n {
+            return false;
+        }
+        return n <= (room - n) / 2;
     }
     false
 }

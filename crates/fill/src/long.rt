@@ -9,12 +9,12 @@ use crate::turns::fill4;
 use crate::turns::fill6;
 use copy::copy_back;
 
-// The first 48 of len bytes over and over: from 48 bytes back and, once 192 are there, from 192 back.
+// The first 48 of len bytes over and over: from 48 bytes back and, where there are many, once 192 are there, from 192 back.
 fn repeat48(dst: &mut [u8], at: usize, len: usize)
     requires { ⌜ (at + len ≤ length (now dst)) × (48 < len) ⌝ }
     ensures { λ _. ⌜ now (dst .exit) ≡ run (bytes (repeated (now (dst .entry)) at 48)) at len (now (dst .entry)) ⌝ }
 {
-    if len <= 192 {
+    if len <= 384 {
         copy_back(dst, at + 48, len - 48, 48);
         return;
     }

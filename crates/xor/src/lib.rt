@@ -80,18 +80,20 @@ fn pattern3(a: u8, b: u8, c: u8) -> [u8; 48]
     t
 }
 
-// Blocks of 48, the last one overlapping. xor48 has this one call, so that it is inlined and the pattern stays in registers.
+// Blocks of 48, the last one overlapping. xor48 has this one call, so that it is inlined, and the pattern is copied: the compiler can
+// tell that no store changes the copy, and keeps it in registers.
 fn xor_pattern(dst: &mut [u8], at: usize, len: usize, row: usize, d: usize, w: &[u8; 48])
     requires { ⌜ (at + len ≤ length (now dst)) × ((row ≤ at) × ((48 ≤ row) × (48 ≤ len))) ⌝ }
     requires { ⌜ (1 ≤ d) × ((48 % d ≡ 0) × (len % d ≡ 0)) ⌝ }
     requires { ⌜ ((k : ℕ) → k < 48 → getD (now w) k 0 ≡ turn (now w) d k) ⌝ }
     ensures { λ _. ⌜ now (dst .exit) ≡ run (xored at row (turn (now (w .entry)) d)) at len (now (dst .entry)) ⌝ }
 {
+    let t = *w;
     let last = len - 48;
     let mut i = 0;
     while i < len {
         let p = least(i, last);
-        xor48(dst, at + p, at + p - row, w);
+        xor48(dst, at + p, at + p - row, &t);
         i += 48;
     }
 }
@@ -135,15 +137,19 @@ fn xor3(dst: &mut [u8], at: usize, n: usize, row: usize, a: u8, b: u8, c: u8)
     }
 }
 
-// A pixel of d bytes over and over.
-fn pattern(d: usize, a: u8, b: u8, c: u8) -> [u8; 48]
-    requires { ⌜ (2 ≤ d) × (d ≤ 3) ⌝ }
-    ensures { λ r. ⌜ ((k : ℕ) → k < 48 → getD r k 0 ≡ turn (a ∷ b ∷ c ∷ []) d k) ⌝ }
+// By blocks. Each depth has its own call with its own pattern: one that could be either would take twice as long to put together.
+fn xor_blocks(dst: &mut [u8], d: usize, at: usize, len: usize, row: usize, a: u8, b: u8, c: u8)
+    requires { ⌜ (at + len ≤ length (now dst)) × ((row ≤ at) × ((48 ≤ row) × (48 ≤ len))) ⌝ }
+    requires { ⌜ (2 ≤ d) × ((d ≤ 3) × (len % d ≡ 0)) ⌝ }
+    ensures { λ _. ⌜ now (dst .exit) ≡ run (xored at row (turn (a ∷ b ∷ c ∷ []) d)) at len (now (dst .entry)) ⌝ }
 {
     if d == 2 {
-        return pattern2(a, b, c);
+        let t = pattern2(a, b, c);
+        xor_pattern(dst, at, len, row, 2, &t);
+        return;
     }
-    pattern3(a, b, c)
+    let t = pattern3(a, b, c);
+    xor_pattern(dst, at, len, row, 3, &t);
 }
 
 // Pixels of two or three bytes, one by one.
@@ -158,7 +164,7 @@ fn xor_few(dst: &mut [u8], d: usize, at: usize, n: usize, row: usize, a: u8, b: 
     xor3(dst, at, n, row, a, b, c);
 }
 
-// By blocks where the run and the row hold one. xor_pattern has this one call for both depths, so that it is inlined here.
+// By blocks where the run and the row hold one.
 fn xor_wide(dst: &mut [u8], d: usize, at: usize, n: usize, row: usize, a: u8, b: u8, c: u8)
     requires { ⌜ (2 ≤ d) × (d ≤ 3) × (at + n * d ≤ length (now dst)) × (row ≤ at) ⌝ }
     ensures { λ _. ⌜ now (dst .exit) ≡ run (xored at row (turn (a ∷ b ∷ c ∷ []) d)) at (n * d) (now (dst .entry)) ⌝ }
@@ -166,8 +172,7 @@ fn xor_wide(dst: &mut [u8], d: usize, at: usize, n: usize, row: usize, a: u8, b:
     let len = n * d;
     if 48 <= len {
         if 48 <= row {
-            let t = pattern(d, a, b, c);
-            xor_pattern(dst, at, len, row, d, &t);
+            xor_blocks(dst, d, at, len, row, a, b, c);
             return;
         }
     }

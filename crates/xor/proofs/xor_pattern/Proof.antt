@@ -12,19 +12,19 @@ use Rattle.xor.proofs.xor_pattern.Statement.{statement}
 use Rattle.xor.proofs.xor_pattern.Tie as tie
 
 abbrev Inv-loop : tie.InvT-loop
-Inv-loop dst₀ at len row d w last i₀ dst i = (i % d ≡ 0) × (i < len + 48) × (length dst ≡ length dst₀) × (dst ≡ run (xored at row (turn w d)) at (min i len) dst₀)
+Inv-loop dst₀ at len row d w t last i₀ dst i = (i % d ≡ 0) × (i < len + 48) × (length dst ≡ length dst₀) × (dst ≡ run (xored at row (turn w d)) at (min i len) dst₀)
 
 abbrev μ-loop : tie.MeasureT-loop
-μ-loop dst₀ at len row d w last i₀ dst i = len + 48 - i
+μ-loop dst₀ at len row d w t last i₀ dst i = len + 48 - i
 
 loop-holds : tie.Need-loop-holds Inv-loop μ-loop
-loop-holds c = (zero-mod (c .before .args .d), search needs, refl, run-none _ _ _ _ (omega arith))
+loop-holds c = (zero-mod (c .before .before .args .d), search needs, refl, run-none _ _ _ _ (omega arith))
 
 loop-again : tie.Need-loop-again Inv-loop μ-loop
 loop-again c =
-    let s = c .before .before .before .before .before .before .before .before in
-    let l = c .before .before .before .before .before .before .loop in
-    let f = c .before .before .before .before .least in (
+    let s = c .before .before .before .before .before .before .before .before .before .before in
+    let l = c .before .before .before .before .before .before .before .loop in
+    let f = c .before .before .before .before .before .least in (
       mod-sum (l .i) 48 (s .args .d) (l .inv .0) (omega arith),
       search needs,
       search needs,
