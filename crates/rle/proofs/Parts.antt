@@ -21,6 +21,7 @@ use Rattle.byte_runs.specs.Runs as runs
 use Rattle.byte_runs.specs.Runs.{run, runWhere, both, there, pixelsThere, bytes, taken, turn, pairOf, xored, inked, maskedBy, rowThere, rowBytes}
 use Rattle.byte_runs.proofs.Fits.{both-hold, is-there, pixels-there}
 use Rattle.byte_runs.proofs.Parts.{in-part, length-part}
+use Rattle.byte_runs.proofs.Runs.{run-cong}
 use Rattle.rle.specs.Painting.{HasPlace, Painted}
 use Rattle.rle.proofs.Writers.{fill-painted, back-painted, xor-painted, image-painted, dither-painted, rows-painted, length-of-depth}
 
@@ -235,25 +236,38 @@ module _ (D w k m : ℕ) (xs part s : List ℕ) (from : ℕ) (first : Bool) (pla
       ∙ far-is (bytesIn p)))
       (rows-painted D w k (m * 8) xs (place .low) (place .high) (place .fits) first wide row s from p of)
 
--- n pixels by one mask, in the whole target
+-- n pixels by one mask, which stands in a part of the stream, in the whole target
 pub few-masked : (D w k n : ℕ) (xs ys s : List ℕ) (from : ℕ) (first : Bool) → HasPlace D k n xs → 1 ≤ w → (first ≡ false → w ≤ k) → n ≤ 8 → from < length s
     → (p : Pixel) → OfDepth D p
-    → ys ≡ runWhere (both (rowThere first (pick first 0 (w * D)) (k * D)) (both (both (leb n 8) (there from 1 s)) (pixelsThere D (k * D) n xs)))
-    (rowBytes first (k * D) (pick first 0 (w * D)) (maskedBy s from D (bytesIn p))) (k * D) (n * D) xs
+    → ys ≡ runWhere (both (rowThere first (pick first 0 (w * D)) (k * D)) (both (both (leb n 8) (there 0 1 (take (from + 1 - from) (drop from s)))) (pixelsThere D (k * D) n xs)))
+    (rowBytes first (k * D) (pick first 0 (w * D)) (maskedBy (take (from + 1 - from) (drop from s)) 0 D (bytesIn p))) (k * D) (n * D) xs
     → Painted D w (imageInk (fgInk first p) (bgInk first (0 ∷ 0 ∷ 0 ∷ [])) (drop from s)) k n xs ys
 few-masked D w k n xs ys s from first place wide row few inside p of e =
     subst (λ (zs : List ℕ). Painted D w (imageInk (fgInk first p) (bgInk first (0 ∷ 0 ∷ 0 ∷ [])) (drop from s)) k n xs zs)
-    (ap (λ (q : Pixel). run (rowBytes first (k * D) (w * D) (maskedBy s from D q)) (k * D) (n * D) xs) (bytes-of D p of) ∙ sym (go first row e))
+    (ap (λ (q : Pixel). run (rowBytes first (k * D) (w * D) (maskedBy s from D q)) (k * D) (n * D) xs) (bytes-of D p of) ∙ sym (go first row e ∙ source-is first))
     (rows-painted D w k n xs (place .low) (place .high) (place .fits) first wide row s from p of)
   where
-    there-all : both (both (leb n 8) (there from 1 s)) (pixelsThere D (k * D) n xs) ≡ true
+    one : List ℕ
+    one = take (from + 1 - from) (drop from s)
+
+    there-all : both (both (leb n 8) (there 0 1 one)) (pixelsThere D (k * D) n xs) ≡ true
     there-all =
-        both-hold _ _ (both-hold _ _ (le-leb n 8 few) (is-there from 1 s (omega arith)))
+        both-hold _ _ (both-hold _ _ (le-leb n 8 few) (is-there 0 1 one (omega (arith, length-part from (from + 1 - from) s (omega arith)))))
         (pixels-there D (k * D) n xs (place .low) (place .high) (omega (arith, place .fits)))
 
     go : (t : Bool) → (t ≡ false → w ≤ k)
-        → ys ≡ runWhere (both (rowThere t (pick t 0 (w * D)) (k * D)) (both (both (leb n 8) (there from 1 s)) (pixelsThere D (k * D) n xs)))
-        (rowBytes t (k * D) (pick t 0 (w * D)) (maskedBy s from D (bytesIn p))) (k * D) (n * D) xs
-        → ys ≡ run (rowBytes t (k * D) (w * D) (maskedBy s from D (bytesIn p))) (k * D) (n * D) xs
+        → ys ≡ runWhere (both (rowThere t (pick t 0 (w * D)) (k * D)) (both (both (leb n 8) (there 0 1 one)) (pixelsThere D (k * D) n xs)))
+        (rowBytes t (k * D) (pick t 0 (w * D)) (maskedBy one 0 D (bytesIn p))) (k * D) (n * D) xs
+        → ys ≡ run (rowBytes t (k * D) (w * D) (maskedBy one 0 D (bytesIn p))) (k * D) (n * D) xs
     go true r f = rw there-all at f
     go false r f = rw (le-leb (w * D) (k * D) (mul-le-mul-right {m = w} {n = k} D (r refl)), there-all) at f
+
+    same-mask : (j : ℕ) → j < n * D → maskedBy one 0 D (bytesIn p) j ≡ maskedBy s from D (bytesIn p) j
+    same-mask j h = masked-source s (bytesIn p) from 1 D j (place .low) (omega (arith, mul-le-mul-right {m = n} {n = 8} D few))
+
+    source-is : (t : Bool) → run (rowBytes t (k * D) (w * D) (maskedBy one 0 D (bytesIn p))) (k * D) (n * D) xs
+        ≡ run (rowBytes t (k * D) (w * D) (maskedBy s from D (bytesIn p))) (k * D) (n * D) xs
+    source-is true = run-cong (bytes (maskedBy one 0 D (bytesIn p))) (bytes (maskedBy s from D (bytesIn p))) (k * D) (n * D) xs same-mask
+    source-is false =
+        run-cong (xored (k * D) (w * D) (maskedBy one 0 D (bytesIn p))) (xored (k * D) (w * D) (maskedBy s from D (bytesIn p))) (k * D) (n * D) xs
+        (λ j h. ap (λ (b : ℕ). bitXor (getD (run (xored (k * D) (w * D) (maskedBy one 0 D (bytesIn p))) (k * D) j xs) (k * D + j - w * D) 0) b) (same-mask j h))

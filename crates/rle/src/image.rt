@@ -33,6 +33,9 @@ pub(crate) fn color_image(src: &[u8], dst: &mut [u8], f: Frame, s: State, n: usi
 {
     let d = f.depth.bytes;
     let p = plan_color_image(d, f.total - s.pixels, n, src.len() - s.pos);
+    if p.pixels == 0 {
+        return finished(s, p, false);
+    }
     paint_image(src, s.pos, dst, d, s.pixels, p.pixels);
     finished(s, p, false)
 }

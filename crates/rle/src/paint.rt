@@ -129,27 +129,6 @@ pub(crate) fn paint_fg_run(dst: &mut [u8], d: usize, w: usize, k: usize, n: usiz
     paint_run(dst, d, w, k, n, ink)
 }
 
-// n pixels from number k on, in the color that stands at src[pos].
-pub(crate) fn paint_color_run(
-    src: &[u8],
-    pos: usize,
-    dst: &mut [u8],
-    d: usize,
-    w: usize,
-    k: usize,
-    n: usize,
-)
-    requires { ⌜ HasPlace d k n (now dst) ⌝ }
-    requires { ⌜ (0 < n → pos + d ≤ length (now src)) × (1 ≤ w) ⌝ }
-    ensures { λ _. ⌜ Painted d w (λ _. decode.Ink.solid (firstPixel d (drop pos (now (src .entry))))) k n (now (dst .entry)) (now (dst .exit)) ⌝ }
-{
-    if n == 0 {
-        return;
-    }
-    let color = read_pixel(src, d, pos);
-    paint_run(dst, d, w, k, n, solid(color))
-}
-
 // n pixels from number k on, with a background's ink. After the first row it is the pixel above: by a call of its own that takes fewer
 // instructions than the way through all the modes.
 pub(crate) fn paint_background(dst: &mut [u8], d: usize, w: usize, k: usize, n: usize, ink: Ink)
@@ -252,7 +231,8 @@ pub(crate) fn paint_whole_masks(
     );
 }
 
-// n pixels from number k on, eight at most, by the mask src[from]. Here the whole target is lent: for so few pixels that is faster.
+// n pixels from number k on, eight at most, by the mask src[from]. Here the whole target is lent: for so few pixels a part would take
+// longer than its tests.
 pub(crate) fn paint_mask_part(
     src: &[u8],
     from: usize,
@@ -272,7 +252,20 @@ pub(crate) fn paint_mask_part(
     let mode = fg.mode;
     let first = is_solid(mode);
     let row = bytes_back(first, d, w);
-    mask_part(src, from, dst, d, k * d, row, n, first, p[0], p[1], p[2]);
+    let last = from + 1;
+    mask_part(
+        &src[from..last],
+        0,
+        dst,
+        d,
+        k * d,
+        row,
+        n,
+        first,
+        p[0],
+        p[1],
+        p[2],
+    );
 }
 
 // n pixels from number k on, eight to a mask, by the masks from src[from] on.
@@ -324,27 +317,6 @@ pub(crate) fn paint_dithered(dst: &mut [u8], d: usize, k: usize, n: usize, a: [u
     );
 }
 
-// n pixels from number k on, an even number, by turns in the two colors that stand at src[pos].
-pub(crate) fn paint_dithered_run(
-    src: &[u8],
-    pos: usize,
-    dst: &mut [u8],
-    d: usize,
-    k: usize,
-    n: usize,
-)
-    requires { ⌜ HasPlace d k n (now dst) ⌝ }
-    requires { ⌜ (0 < n → pos + 2 * d ≤ length (now src)) × (n % 2 ≡ 0) ⌝ }
-    ensures { λ _. ⌜ ((w : ℕ) → Painted d w (decode.ditherInk (firstPixel d (drop pos (now (src .entry)))) (firstPixel d (drop d (drop pos (now (src .entry)))))) k n (now (dst .entry)) (now (dst .exit))) ⌝ }
-{
-    if n == 0 {
-        return;
-    }
-    let a = read_pixel(src, d, pos);
-    let b = read_pixel(src, d, pos + d);
-    paint_dithered(dst, d, k, n, a, b)
-}
-
 // One pixel or none, at number k.
 pub(crate) fn paint_single(dst: &mut [u8], d: usize, k: usize, n: usize, p: [u8; 3])
     requires { ⌜ HasPlace d k n (now dst) ⌝ }
@@ -363,9 +335,6 @@ pub(crate) fn paint_image(src: &[u8], pos: usize, dst: &mut [u8], d: usize, k: u
     requires { ⌜ pos + n * d ≤ length (now src) ⌝ }
     ensures { λ _. ⌜ ((w : ℕ) → Painted d w (λ j. decode.Ink.solid (pixelAt d (drop pos (now (src .entry))) j)) k n (now (dst .entry)) (now (dst .exit))) ⌝ }
 {
-    if n == 0 {
-        return;
-    }
     let len = n * d;
     let last = pos + len;
     let at = k * d;

@@ -1,4 +1,7 @@
 // Orders that paint runs, and single pixels. Each plans the order, paints the pixels that the plan says, and ends as the plan says.
+//
+// Where a plan says none, the order is refused. Orders of colors that the stream has end there, before they paint, so that the compiler
+// carries no refusal past the painting; the others leave it to their painter, which took fewer instructions.
 ghost use mathlib.Core.Path.{_≡_};
 ghost use mathlib.Core.List.{List};
 ghost use Prim.Native.Nat.{ℕ, _≤_};
@@ -11,10 +14,12 @@ ghost use Rattle.rle.specs.Planning.{pixelKind};
 ghost use Rattle.rle.specs.States.{frameOf};
 ghost use Rattle.rle.specs.Orders.{Ready, Executes};
 use crate::paint::paint_bg_run;
-use crate::paint::paint_color_run;
-use crate::paint::paint_dithered_run;
+use crate::paint::paint_dithered;
 use crate::paint::paint_fg_run;
+use crate::paint::paint_run;
 use crate::paint::paint_single;
+use crate::paint::solid;
+use crate::pixel::read_pixel;
 use crate::plan::plan_dithered_run;
 use crate::plan::plan_one_pixel;
 use crate::plan::plan_pixel_run;
@@ -75,7 +80,11 @@ pub(crate) fn color_run(src: &[u8], dst: &mut [u8], f: Frame, s: State, n: usize
 {
     let d = f.depth.bytes;
     let p = plan_pixel_run(d, f.total - s.pixels, n, src.len() - s.pos);
-    paint_color_run(src, s.pos, dst, d, f.width, s.pixels, p.pixels);
+    if p.pixels == 0 {
+        return finished(s, p, false);
+    }
+    let color = read_pixel(src, d, s.pos);
+    paint_run(dst, d, f.width, s.pixels, p.pixels, solid(color));
     finished(s, p, false)
 }
 
@@ -86,7 +95,12 @@ pub(crate) fn dithered_run(src: &[u8], dst: &mut [u8], f: Frame, s: State, n: us
 {
     let d = f.depth.bytes;
     let p = plan_dithered_run(d, f.total - s.pixels, n, src.len() - s.pos);
-    paint_dithered_run(src, s.pos, dst, d, s.pixels, p.pixels);
+    if p.pixels == 0 {
+        return finished(s, p, false);
+    }
+    let a = read_pixel(src, d, s.pos);
+    let b = read_pixel(src, d, s.pos + d);
+    paint_dithered(dst, d, s.pixels, p.pixels, a, b);
     finished(s, p, false)
 }
 

@@ -1,4 +1,4 @@
--- `paint_mask_part` meets its contract: the writer's tests hold, so the pixels are written. Assumes nothing.
+-- `paint_mask_part` meets its contract: the part that is lent holds the mask, and the writer's tests hold. Assumes nothing.
 use mathlib.Core.Path.{sym, _∙_}
 use native.Mathlib.Omega.{arith}
 use Rattle.rle.proofs.Painting.{mask-row, painted-by-masks}
@@ -14,9 +14,9 @@ bytes-back-requires c κs =
 
 returns : tie.Need-returns
 returns c =
-    let s = c .before .before .before .before .before .before .before .before .before in
-    let solid = c .before .before .before .before .before .is-solid in
-    let back = c .before .before .before .before .bytes-back .ensures in
+    let s = c .before .before .before .before .before .before .before .before .before .before in
+    let solid = c .before .before .before .before .before .before .is-solid in
+    let back = c .before .before .before .before .before .bytes-back .ensures in
     let place = s .pre .0 in
     painted-by-masks (s .pre .1 .2) (solid .ensures) _
     (few-masked (s .args .d) (s .args .w) (s .args .k) (s .args .n) (s .args .dst .now) _ (s .args .src .now) (s .args .from) (solid .result)
@@ -26,5 +26,5 @@ returns c =
 pub paint-mask-part-spec : {M : Type 1} → statement M
 paint-mask-part-spec =
     tie.close
-    (tie.spec (λ c κs. search needs) bytes-back-requires (λ c. search needs) (λ c. search needs) (λ c. search needs)
-    (λ c. search needs) (λ c κs. search needs) (λ c. search needs) returns)
+    (tie.spec (λ c κs. search needs) bytes-back-requires (λ c. search needs) (λ c. search needs) (λ c. search needs) (λ c. search needs)
+    (λ c. search needs) (λ c. search needs) (λ c. search needs) (λ c. search needs) (λ c κs. search needs) (λ c. search needs) returns)
