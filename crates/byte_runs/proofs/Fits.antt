@@ -11,7 +11,6 @@ use lib.ListN.{length}
 use borrow.Author.Tests.{le-leb, lt-leb, leb-true}
 use Rattle.base.proofs.Tests.{by-less, both-true}
 use Rattle.byte_runs.specs.Runs.{run, runWhere, both, there, isDepth, pixelsThere, above}
-use Rattle.byte_runs.proofs.Runs.{run-none}
 
 -- ---- tests
 
@@ -90,14 +89,6 @@ module _ (test : Bool) (v : List ℕ → ℕ → ℕ) (at n : ℕ) (l : List ℕ
 
   pub where-fails : test ≡ false → l ≡ runWhere test v at n l
   where-fails e = rw e refl
-
-  -- there are no bytes to write
-  pub where-none : n ≡ 0 → l ≡ runWhere test v at n l
-  where-none e = both-ways test
-    where
-      both-ways : (t : Bool) → l ≡ runWhere t v at n l
-      both-ways true = run-none v at n l e
-      both-ways false = refl
 
 -- a copy from a row back whose bytes are there
 pub back-there : (at n row : ℕ) (new l : List ℕ) → row ≤ at → at + n ≤ length l

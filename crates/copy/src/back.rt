@@ -60,20 +60,23 @@ fn back_blocks(dst: &mut [u8], at: usize, len: usize, row: usize)
     back16(dst, at + len - 16, from + len - 16);
 }
 
-// One to three bytes: the first, the middle and the last.
+// Three bytes at most: the first, the middle and the last.
 fn back_few(dst: &mut [u8], at: usize, len: usize, row: usize)
-    requires { ⌜ (at + len ≤ length (now dst)) × ((row ≤ at) × ((4 ≤ row) × ((1 ≤ len) × (len < 4)))) ⌝ }
+    requires { ⌜ (at + len ≤ length (now dst)) × ((row ≤ at) × ((4 ≤ row) × (len < 4))) ⌝ }
     ensures { λ _. ⌜ now (dst .exit) ≡ run (above at row) at len (now (dst .entry)) ⌝ }
 {
+    if len == 0 {
+        return;
+    }
     let from = at - row;
     dst[at] = dst[from];
     dst[at + len / 2] = dst[from + len / 2];
     dst[at + len - 1] = dst[from + len - 1];
 }
 
-// len bytes, at least one, each the one `row` places back.
+// len bytes, each the one `row` places back.
 pub(crate) fn copied_back(dst: &mut [u8], at: usize, len: usize, row: usize)
-    requires { ⌜ (at + len ≤ length (now dst)) × ((row ≤ at) × (1 ≤ len)) ⌝ }
+    requires { ⌜ (at + len ≤ length (now dst)) × (row ≤ at) ⌝ }
     ensures { λ _. ⌜ now (dst .exit) ≡ run (above at row) at len (now (dst .entry)) ⌝ }
 {
     if row < 16 {

@@ -23,9 +23,6 @@ pub fn copy_back(dst: &mut [u8], at: usize, len: usize, row: usize)
     if dst.len() - at < len {
         return;
     }
-    if len == 0 {
-        return;
-    }
     copied_back(dst, at, len, row);
 }
 
@@ -43,9 +40,6 @@ pub fn copy_in(src: &[u8], from: usize, dst: &mut [u8], at: usize, len: usize)
         return;
     }
     if dst.len() - at < len {
-        return;
-    }
-    if len == 0 {
         return;
     }
     copied_in(src, from, dst, at, len);

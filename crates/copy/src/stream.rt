@@ -34,11 +34,14 @@ fn in16(src: &[u8], from: usize, dst: &mut [u8], to: usize)
     store16(dst, to, &t);
 }
 
-// One to three bytes: the first, the middle and the last.
+// Three bytes at most: the first, the middle and the last.
 fn in_few(src: &[u8], from: usize, dst: &mut [u8], at: usize, len: usize)
-    requires { ⌜ (at + len ≤ length (now dst)) × ((from + len ≤ length (now src)) × ((1 ≤ len) × (len < 4))) ⌝ }
+    requires { ⌜ (at + len ≤ length (now dst)) × ((from + len ≤ length (now src)) × (len < 4)) ⌝ }
     ensures { λ _. ⌜ now (dst .exit) ≡ run (taken (now (src .entry)) from) at len (now (dst .entry)) ⌝ }
 {
+    if len == 0 {
+        return;
+    }
     dst[at] = src[from];
     dst[at + len / 2] = src[from + len / 2];
     dst[at + len - 1] = src[from + len - 1];
@@ -57,9 +60,9 @@ fn in_blocks(src: &[u8], from: usize, dst: &mut [u8], at: usize, len: usize)
     in16(src, from + len - 16, dst, at + len - 16);
 }
 
-// len bytes, at least one, those of src from `from` on.
+// len bytes, those of src from `from` on.
 pub(crate) fn copied_in(src: &[u8], from: usize, dst: &mut [u8], at: usize, len: usize)
-    requires { ⌜ (at + len ≤ length (now dst)) × ((from + len ≤ length (now src)) × (1 ≤ len)) ⌝ }
+    requires { ⌜ (at + len ≤ length (now dst)) × (from + len ≤ length (now src)) ⌝ }
     ensures { λ _. ⌜ now (dst .exit) ≡ run (taken (now (src .entry)) from) at len (now (dst .entry)) ⌝ }
 {
     if len < 4 {

@@ -3,8 +3,7 @@ use native.Mathlib.Omega.{arith}
 use lib.Dec.{leb}
 use borrow.Author.Tests.{le-leb, lt-leb}
 use borrow.Author.Needs.{needs}
-use Rattle.byte_runs.specs.Runs.{both, there}
-use Rattle.byte_runs.proofs.Fits.{both-hold, first-fails, second-fails, is-there, not-there, where-holds, where-fails, where-none}
+use Rattle.byte_runs.proofs.Fits.{both-hold, first-fails, second-fails, is-there, not-there, where-holds, where-fails}
 use Rattle.copy.proofs.copy_back.Statement.{statement}
 use Rattle.copy.proofs.copy_back.Tie as tie
 
@@ -23,16 +22,11 @@ returns-3 c =
 
 returns-4 : tie.Need-returns-4
 returns-4 c =
-    let a = c .before .before .before .before .before .args in
-    where-none (both (leb (a .row) (a .at)) (there (a .at) (a .len) (a .dst .now))) _ _ _ _ (c .if4 .taken)
-
-returns-5 : tie.Need-returns-5
-returns-5 c =
-    let a = c .before .before .before .before .before .before .before .before .before .args in
+    let a = c .before .before .before .before .before .before .before .before .args in
     where-holds _ _ _ _ _ (both-hold _ _ (le-leb (a .row) (a .at) (omega arith)) (is-there (a .at) (a .len) (a .dst .now) (omega arith)))
     (c .before .before .copied-back .ensures)
 
 pub copy-back-spec : {M : Type 1} → statement M
 copy-back-spec =
     tie.close
-    (tie.spec returns returns-2 (λ c. search needs) returns-3 returns-4 (λ c κs. search needs) (λ c. search needs) returns-5)
+    (tie.spec returns returns-2 (λ c. search needs) returns-3 (λ c κs. search needs) (λ c. search needs) returns-4)

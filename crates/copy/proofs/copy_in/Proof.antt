@@ -1,8 +1,8 @@
 -- `copy_in` meets its contract: each test that fails leaves the bytes as they are, as the contract does. Assumes nothing.
 use native.Mathlib.Omega.{arith}
 use borrow.Author.Needs.{needs}
-use Rattle.byte_runs.specs.Runs.{both, there}
-use Rattle.byte_runs.proofs.Fits.{both-hold, first-fails, second-fails, is-there, not-there, where-holds, where-fails, where-none}
+use Rattle.byte_runs.specs.Runs.{there}
+use Rattle.byte_runs.proofs.Fits.{both-hold, first-fails, second-fails, is-there, not-there, where-holds, where-fails}
 use Rattle.copy.proofs.copy_in.Statement.{statement}
 use Rattle.copy.proofs.copy_in.Tie as tie
 
@@ -28,12 +28,7 @@ returns-4 c =
 
 returns-5 : tie.Need-returns-5
 returns-5 c =
-    let a = c .before .before .before .before .before .before .before .args in
-    where-none (both (there (a .from) (a .len) (a .src .now)) (there (a .at) (a .len) (a .dst .now))) _ _ _ _ (c .if5 .taken)
-
-returns-6 : tie.Need-returns-6
-returns-6 c =
-    let a = c .before .before .before .before .before .before .before .before .before .before .before .args in
+    let a = c .before .before .before .before .before .before .before .before .before .before .args in
     where-holds _ _ _ _ _
     (both-hold _ _ (is-there (a .from) (a .len) (a .src .now) (omega arith)) (is-there (a .at) (a .len) (a .dst .now) (omega arith)))
     (c .before .before .copied-in .ensures)
@@ -41,5 +36,5 @@ returns-6 c =
 pub copy-in-spec : {M : Type 1} → statement M
 copy-in-spec =
     tie.close
-    (tie.spec returns (λ c. search needs) returns-2 returns-3 (λ c. search needs) returns-4 returns-5 (λ c κs. search needs)
-    (λ c. search needs) returns-6)
+    (tie.spec returns (λ c. search needs) returns-2 returns-3 (λ c. search needs) returns-4 (λ c κs. search needs) (λ c. search needs)
+    returns-5)
