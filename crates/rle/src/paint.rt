@@ -1,7 +1,7 @@
 // Painting pixels into a target: pixel k stands in its bytes from k * d on, and the pixel above it w pixels before.
 //
-// A painter of an order's pixels returns at once where there are none. A plan that refuses its order asks for none, so the compiler
-// takes a refused order past the painting.
+// A painter that an order calls for all its plans returns at once where there are no pixels. A plan that refuses its order asks for none,
+// so the compiler takes a refused order past the painting.
 ghost use mathlib.Core.Path.{_≡_};
 ghost use mathlib.Core.Bool.{false};
 ghost use Prim.Native.Nat.{ℕ, _+_, _-_, _*_, _%_, _≤_, _<_};
