@@ -55,9 +55,19 @@ module _ (d at n : ℕ) (l : List ℕ) where
       let depth = both-true (leb 1 d) (leb d 3) (h .0) in
       (leb-true 1 d (depth .0), leb-true d 3 (depth .1), leb-true (at + n * d) (length l) (h .1))
 
+  -- pixels of no bytes, or of more than three
+  pub no-bytes : d ≡ 0 → pixelsThere d at n l ≡ false
+  no-bytes h = first-fails (isDepth d) (there at (n * d) l) (first-fails (leb 1 d) (leb d 3) (lt-leb 1 d (omega arith)))
+
+  pub many-bytes : 3 < d → pixelsThere d at n l ≡ false
+  many-bytes h = first-fails (isDepth d) (there at (n * d) l) (second-fails (leb 1 d) (leb d 3) (lt-leb d 3 h))
+
+  pub no-room : length l < at + n * d → pixelsThere d at n l ≡ false
+  no-room h = second-fails (isDepth d) (there at (n * d) l) (not-there at (n * d) l h)
+
   -- behind the list's end they are not
   pub not-pixels : length l < at → pixelsThere d at n l ≡ false
-  not-pixels h = second-fails (isDepth d) (there at (n * d) l) (not-there at (n * d) l (omega arith))
+  not-pixels h = no-room (omega arith)
 
 -- ---- the answer of `pixels_fit`
 

@@ -1,14 +1,15 @@
 -- Laws of masks: the test of a bit against the definition's quotient, by one test that antt computes, and the bytes of many masks. Assumes nothing.
 use mathlib.Core.Path.{_≡_, refl, sym, ap, _∙_}
-use mathlib.Core.List.{List, [], _∷_}
+use mathlib.Core.List.{List, [], _∷_, _++_}
 use Prim.Native.Nat.{ℕ, zero, suc, _+_, _*_, _/_, _%_, _<_, _^_}
-use native.Mathlib.Nat.{not-suc-le-zero, one-mul, zero-mul, add-zero, add-assoc, mul-comm, mul-assoc, div-div-eq-div-mul, div-eq-of-lt, div-one, mod-eq-of-lt, mul-add-div-right, mul-add-mod-self-right, pow-suc}
+use native.Mathlib.Nat.{not-suc-le-zero, one-mul, zero-mul, add-zero, add-assoc, mul-comm, mul-assoc, div-div-eq-div-mul, div-eq-of-lt, div-lt-iff-lt-mul, div-one, mod-eq-of-lt, mul-add-div-right, mul-add-mod-self-right, pow-suc}
 use native.Mathlib.Omega.{arith}
 use native.Mathlib.Numerals.{add-one}
-use lib.ListN.{getD}
+use lib.ListN.{getD, replicate}
 use lib.Bits.{bitAnd}
 use Rattle.byte_runs.specs.Runs.{both, inked, inkedBy, maskedBy, turn}
 use mathlib.Core.Bool.{Bool, true, false}
+use mathlib.Core.Logic.{_⊎_, ⊎-elim}
 use lib.Dec.{eqb}
 use borrow.Author.Tests.{eq-eqb, ne-eqb, eqb-true}
 use Rattle.base.proofs.Tests.{both-true, before-or-last}
@@ -29,46 +30,44 @@ abbrev one : Bool → ℕ
 one true = 1
 one false = 0
 
+-- what the mask twice, in 16 bits, is tested against for each bit: for bits 0 to 3 their place in the upper copy, for bits 4 to 7 in the lower
+abbrev tests : List ℕ
+tests = 256 ∷ 512 ∷ 1024 ∷ 2048 ∷ 16 ∷ 32 ∷ 64 ∷ 128 ∷ []
+
+abbrev found : ℕ → ℕ → Bool
+found m b = eqb (bitAnd (m * 257) b) b
+
 abbrev right : ℕ → ℕ → Bool
-right m i = eqb (one (eqb (bitAnd m (2 ^ i)) (2 ^ i))) (m / 2 ^ i % 2)
+right m k = eqb (one (found m (getD tests k 0))) (m / 2 ^ k % 2)
 
 -- all 256 masks, all 8 bits
-bits-right : (m i : ℕ) → m < 256 → i < 8 → one (eqb (bitAnd m (2 ^ i)) (2 ^ i)) ≡ m / 2 ^ i % 2
-bits-right m i h g = eqb-true _ _ (below (right m) 8 (below (λ (n : ℕ). upto (right n) 8) 256 refl m h) i g)
+bits-right : (m k : ℕ) → m < 256 → k < 8 → one (found m (getD tests k 0)) ≡ m / 2 ^ k % 2
+bits-right m k h g = eqb-true _ _ (below (right m) 8 (below (λ (n : ℕ). upto (right n) 8) 256 refl m h) k g)
 
--- b is the bit's own number, and the code found it set, or not
-module _ (m i b a t : ℕ) (h : m < 256) (g : i < 8) (e : b ≡ 2 ^ i) where
-  pub ink-set : bitAnd m b ≡ b → t ≡ a → t ≡ inked m a i
-  ink-set s r =
-      let s′ : bitAnd m (2 ^ i) ≡ 2 ^ i = ap (λ (x : ℕ). bitAnd m x) (sym e) ∙ s ∙ e in
-      let q : 1 ≡ m / 2 ^ i % 2 = ap one (sym (eq-eqb (bitAnd m (2 ^ i)) (2 ^ i) s′)) ∙ bits-right m i h g in
-      r ∙ sym (one-mul a) ∙ ap (λ (x : ℕ). x * a) q
+-- each of them d times, for pixels of d bytes
+abbrev spread : ℕ → List ℕ → List ℕ
+spread d [] = []
+spread d (b ∷ bs) = replicate d b ++ spread d bs
 
-  pub ink-clear : (bitAnd m b ≡ b → ⊥) → t ≡ 0 → t ≡ inked m a i
-  ink-clear s r =
-      let q : 0 ≡ m / 2 ^ i % 2 =
-      ap one (sym (ne-eqb (bitAnd m (2 ^ i)) (2 ^ i) (λ (x : bitAnd m (2 ^ i) ≡ 2 ^ i). s (ap (λ (y : ℕ). bitAnd m y) e ∙ x ∙ sym e)))) ∙ bits-right m i h g in
-      r ∙ sym (zero-mul a) ∙ ap (λ (x : ℕ). x * a) q
+abbrev right-by : ℕ → ℕ → Bool
+right-by d i = eqb (getD (spread d tests) i 0) (getD tests (i / d) 0)
 
--- the table of the bits' numbers, each d times
-abbrev bits1 : List ℕ
-bits1 = 1 ∷ 2 ∷ 4 ∷ 8 ∷ 16 ∷ 32 ∷ 64 ∷ 128 ∷ []
-
-pub bits1-right : (i : ℕ) → i < 8 → getD bits1 i 0 ≡ 2 ^ i
-bits1-right i h = eqb-true _ _ (below (λ (k : ℕ). eqb (getD bits1 k 0) (2 ^ k)) 8 refl i h)
-
-abbrev bits2 : List ℕ
-bits2 = 1 ∷ 1 ∷ 2 ∷ 2 ∷ 4 ∷ 4 ∷ 8 ∷ 8 ∷ 16 ∷ 16 ∷ 32 ∷ 32 ∷ 64 ∷ 64 ∷ 128 ∷ 128 ∷ []
-
-pub bits2-right : (i : ℕ) → i < 16 → getD bits2 i 0 ≡ 2 ^ (i / 2)
-bits2-right i h = eqb-true _ _ (below (λ (k : ℕ). eqb (getD bits2 k 0) (2 ^ (k / 2))) 16 refl i h)
-
-abbrev bits3 : List ℕ
-bits3 =
-    1 ∷ 1 ∷ 1 ∷ 2 ∷ 2 ∷ 2 ∷ 4 ∷ 4 ∷ 4 ∷ 8 ∷ 8 ∷ 8 ∷ 16 ∷ 16 ∷ 16 ∷ 32 ∷ 32 ∷ 32 ∷ 64 ∷ 64 ∷ 64 ∷ 128 ∷ 128 ∷ 128 ∷ []
-
-pub bits3-right : (i : ℕ) → i < 24 → getD bits3 i 0 ≡ 2 ^ (i / 3)
-bits3-right i h = eqb-true _ _ (below (λ (k : ℕ). eqb (getD bits3 k 0) (2 ^ (k / 3))) 24 refl i h)
+-- byte i, of pixel k: the code found the pixel's bit set, and t is the color's byte a, or clear, and t is zero. That each byte is tested by its
+-- pixel's bit is computed for the depth, by `refl`.
+pub ink-found : (d m i k a t : ℕ) {S C : Type 0} → upto (right-by d) (8 * d) ≡ true → m < 256 → i < 8 * d → k ≡ i / d
+    → (S → (bitAnd (m * 257) (getD (spread d tests) i 0) ≡ getD (spread d tests) i 0) × (t ≡ a))
+    → (C → (bitAnd (m * 257) (getD (spread d tests) i 0) ≡ getD (spread d tests) i 0 → ⊥) × (t ≡ 0))
+    → S ⊎ C → t ≡ inked m a k
+ink-found d m i k a t all h g e set clear came =
+    let b : ℕ = getD (spread d tests) i 0 in
+    let hd : 0 < d = omega arith in
+    let hk : k < 8 = rw e (div-lt-iff-lt-mul hd .1 g) in
+    let is : b ≡ getD tests k 0 = eqb-true _ _ (below (right-by d) (8 * d) all i g) ∙ ap (λ (j : ℕ). getD tests j 0) (sym e) in
+    let bit : one (found m b) ≡ m / 2 ^ k % 2 = ap (λ (x : ℕ). one (found m x)) is ∙ bits-right m k h hk in
+    ⊎-elim {C = t ≡ inked m a k}
+    (λ s. set s .1 ∙ sym (one-mul a) ∙ ap (λ (x : ℕ). x * a) (ap one (sym (eq-eqb _ _ (set s .0))) ∙ bit))
+    (λ s. clear s .1 ∙ sym (zero-mul a) ∙ ap (λ (x : ℕ). x * a) (ap one (sym (ne-eqb _ _ (clear s .0))) ∙ bit))
+    came
 
 -- a mask that is halved turn by turn
 pub half : (mask m i : ℕ) → m ≡ mask / 2 ^ i → m / 2 ≡ mask / 2 ^ (i + 1)

@@ -214,13 +214,20 @@ pub fn mask_part(
 )
     ensures { λ _. ⌜ now (dst .exit) ≡ runWhere (both (rowThere first row at) (both (both (leb n 8) (there pos 1 (now (src .entry)))) (pixelsThere d at n (now (dst .entry))))) (rowBytes first at row (maskedBy (now (src .entry)) pos d (a ∷ b ∷ c ∷ []))) at (n * d) (now (dst .entry)) ⌝ }
 {
+    if 8 < n {
+        return;
+    }
+    if d == 0 {
+        return;
+    }
+    if 3 < d {
+        return;
+    }
     if dst.len() < at {
         return;
     }
-    if !pixels_fit(d, n, dst.len() - at) {
-        return;
-    }
-    if 8 < n {
+    // n is at most 8 and d at most 3, so that the product cannot wrap
+    if dst.len() - at < n * d {
         return;
     }
     if src.len() <= pos {

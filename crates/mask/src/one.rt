@@ -31,15 +31,17 @@ fn mixed8(src: &[u8], from: usize, w: &[u8; 8]) -> [u8; 8]
     t
 }
 
-// The eight pixels of a mask. Each bit is tested against a table, which compiles to vector code.
+// The eight pixels of a mask. Each bit is tested against a table, which compiles to vector code. The mask stands twice in 16 bits; bits 0 to
+// 3 are tested in the upper copy and bits 4 to 7 in the lower, so that none is a sign bit, which the compiler would test in a way of its own.
 fn masked1(m: u8, a: u8) -> [u8; 8]
     ensures { λ r. ⌜ ((k : ℕ) → k < 8 → getD r k 0 ≡ inked m a k) ⌝ }
 {
-    let bits: [u8; 8] = [1, 2, 4, 8, 16, 32, 64, 128];
+    let x = (m as u16) * 257;
+    let bits: [u16; 8] = [256, 512, 1024, 2048, 16, 32, 64, 128];
     let mut t: [u8; 8] = [0; 8];
     let mut i = 0;
     while i < 8 {
-        t[i] = if m & bits[i] == bits[i] { a } else { 0 };
+        t[i] = if x & bits[i] == bits[i] { a } else { 0 };
         i += 1;
     }
     t

@@ -46,23 +46,24 @@ fn eight3(a: u8, b: u8, c: u8) -> [u8; 24]
     t
 }
 
-// The eight pixels of a mask, p being the color eight times. Each bit is tested against a table, which compiles to vector code.
+// The eight pixels of a mask, p being the color eight times. Each bit is tested as masked1 does, for the three bytes of its pixel.
 fn masked3(m: u8, p: &[u8; 24]) -> [u8; 24]
     ensures { λ r. ⌜ ((k : ℕ) → k < 24 → getD r k 0 ≡ inkedBy m 3 (now (p .entry)) k) ⌝ }
 {
-    let bits: [u8; 24] = [
-        1,
-        1,
-        1,
-        2,
-        2,
-        2,
-        4,
-        4,
-        4,
-        8,
-        8,
-        8,
+    let x = (m as u16) * 257;
+    let bits: [u16; 24] = [
+        256,
+        256,
+        256,
+        512,
+        512,
+        512,
+        1024,
+        1024,
+        1024,
+        2048,
+        2048,
+        2048,
         16,
         16,
         16,
@@ -79,7 +80,7 @@ fn masked3(m: u8, p: &[u8; 24]) -> [u8; 24]
     let mut t: [u8; 24] = [0; 24];
     let mut i = 0;
     while i < 24 {
-        t[i] = if m & bits[i] == bits[i] { p[i] } else { 0 };
+        t[i] = if x & bits[i] == bits[i] { p[i] } else { 0 };
         i += 1;
     }
     t

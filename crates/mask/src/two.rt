@@ -45,15 +45,33 @@ fn eight2(a: u8, b: u8, c: u8) -> [u8; 16]
     t
 }
 
-// The eight pixels of a mask, p being the color eight times. Each bit is tested against a table, which compiles to vector code.
+// The eight pixels of a mask, p being the color eight times. Each bit is tested as masked1 does, for the two bytes of its pixel.
 fn masked2(m: u8, p: &[u8; 16]) -> [u8; 16]
     ensures { λ r. ⌜ ((k : ℕ) → k < 16 → getD r k 0 ≡ inkedBy m 2 (now (p .entry)) k) ⌝ }
 {
-    let bits: [u8; 16] = [1, 1, 2, 2, 4, 4, 8, 8, 16, 16, 32, 32, 64, 64, 128, 128];
+    let x = (m as u16) * 257;
+    let bits: [u16; 16] = [
+        256,
+        256,
+        512,
+        512,
+        1024,
+        1024,
+        2048,
+        2048,
+        16,
+        16,
+        32,
+        32,
+        64,
+        64,
+        128,
+        128,
+    ];
     let mut t: [u8; 16] = [0; 16];
     let mut i = 0;
     while i < 16 {
-        t[i] = if m & bits[i] == bits[i] { p[i] } else { 0 };
+        t[i] = if x & bits[i] == bits[i] { p[i] } else { 0 };
         i += 1;
     }
     t

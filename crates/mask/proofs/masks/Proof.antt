@@ -1,9 +1,10 @@
 -- `masks` meets its contract: each test that fails leaves no place, and where all hold the pixels are written. Assumes nothing.
+use mathlib.Core.List.{[], _∷_}
 use Prim.Native.Nat.{_*_}
 use native.Mathlib.Omega.{arith}
 use borrow.Author.Needs.{needs}
 use borrow.Author.Tests.{not-true, not-false}
-use Rattle.byte_runs.specs.Runs.{there}
+use Rattle.byte_runs.specs.Runs.{there, maskedBy}
 use Rattle.byte_runs.proofs.Fits.{is-there, not-there, pixels-bounds, not-pixels, fit-parted}
 use Rattle.mask.proofs.Places.{no-pixels, no-masks, no-row, in-first, in-later}
 use Rattle.mask.proofs.masks.Statement.{statement}
@@ -42,7 +43,7 @@ returns-5 : tie.Need-returns-5
 returns-5 c =
     let p = c .before .before .before .before .before .before .before .before in
     let a = p .before .before .before .before .args in
-    in-first _ (a .d) (a .at) (a .row) (a .m * 8) (a .first) (there (a .pos) (a .m) (a .src .now)) (a .dst .now) _ (is-there (a .pos) (a .m) (a .src .now) (omega arith))
+    in-first (maskedBy (a .src .now) (a .pos) (a .d) (a .a ∷ a .b ∷ a .c ∷ [])) (a .d) (a .at) (a .row) (a .m * 8) (a .first) (there (a .pos) (a .m) (a .src .now)) (a .dst .now) _ (is-there (a .pos) (a .m) (a .src .now) (omega arith))
     (fit-parted (a .d) (a .at) (a .m) 8 (a .dst .now) (omega arith) (omega arith) (p .pixels-fit .ensures) (not-false _ (c .before .before .before .before .before .before .before .if2 .left)))
     (c .before .before .before .before .if5 .taken) (c .before .before .put-masks .ensures)
 
@@ -63,7 +64,7 @@ returns-7 : tie.Need-returns-7
 returns-7 c =
     let p = c .before .before .before .before .before .before .before .before .before in
     let a = p .before .before .before .before .args in
-    in-later _ (a .d) (a .at) (a .row) (a .m * 8) (a .first) (there (a .pos) (a .m) (a .src .now)) (a .dst .now) _ (is-there (a .pos) (a .m) (a .src .now) (omega arith))
+    in-later (maskedBy (a .src .now) (a .pos) (a .d) (a .a ∷ a .b ∷ a .c ∷ [])) (a .d) (a .at) (a .row) (a .m * 8) (a .first) (there (a .pos) (a .m) (a .src .now)) (a .dst .now) _ (is-there (a .pos) (a .m) (a .src .now) (omega arith))
     (fit-parted (a .d) (a .at) (a .m) 8 (a .dst .now) (omega arith) (omega arith) (p .pixels-fit .ensures) (not-false _ (c .before .before .before .before .before .before .before .before .if2 .left)))
     (c .before .before .before .before .before .if5 .left) (omega arith) (c .before .before .xor-masks .ensures)
 

@@ -1,5 +1,5 @@
--- `masked3` meets its contract: i bytes are in the array, each by its bit's number in the table. Assumes nothing.
-use mathlib.Core.Path.{_≡_}
+-- `masked3` meets its contract: i bytes are in the array, each by its pixel's bit. Assumes nothing.
+use mathlib.Core.Path.{_≡_, refl}
 use Prim.Native.Nat.{ℕ, _≤_, _<_, _-_, _/_}
 use native.Mathlib.Omega.{arith}
 use native.Mathlib.Nat.{not-suc-le-zero}
@@ -7,16 +7,15 @@ use lib.ListN.{length, getD}
 use borrow.Author.Needs.{needs}
 use Rattle.byte_runs.specs.Runs.{inkedBy}
 use Rattle.byte_runs.proofs.Arrays.{filled-by}
-use mathlib.Core.Logic.{⊎-elim}
-use Rattle.byte_runs.proofs.Masks.{ink-set, ink-clear, bits3-right}
+use Rattle.byte_runs.proofs.Masks.{ink-found}
 use Rattle.mask.proofs.three.masked3.Statement.{statement}
 use Rattle.mask.proofs.three.masked3.Tie as tie
 
 abbrev Inv-loop : tie.InvT-loop
-Inv-loop m p bits t₀ i₀ t i = (i ≤ 24) × (length t ≡ 24) × ((k : ℕ) → k < i → getD t k 0 ≡ inkedBy m 3 p k)
+Inv-loop m p x bits t₀ i₀ t i = (i ≤ 24) × (length t ≡ 24) × ((k : ℕ) → k < i → getD t k 0 ≡ inkedBy m 3 p k)
 
 abbrev μ-loop : tie.MeasureT-loop
-μ-loop m p bits t₀ i₀ t i = 24 - i
+μ-loop m p x bits t₀ i₀ t i = 24 - i
 
 loop-holds : tie.Need-loop-holds Inv-loop μ-loop
 loop-holds c = (search needs, search needs, λ k h. absurd (not-suc-le-zero h))
@@ -28,10 +27,8 @@ loop-again c =
       search needs,
       search needs,
       filled-by (inkedBy (a .m) 3 (a .p .now)) (l .t) (l .i) (c .if1 .t) (omega arith) (l .inv .2)
-          (⊎-elim
-          (λ w. ink-set (a .m) (l .i / 3) _ _ (c .if1 .t) (omega arith) (omega arith) (bits3-right (l .i) (omega arith)) (w .0 .taken) (w .2))
-          (λ w. ink-clear (a .m) (l .i / 3) _ _ (c .if1 .t) (omega arith) (omega arith) (bits3-right (l .i) (omega arith)) (w .0 .left) (w .1))
-          (c .if1 .came)),
+          (ink-found 3 (a .m) (l .i) (l .i / 3) (getD (a .p .now) (l .i) 0) (c .if1 .t) refl (omega arith) (omega arith) refl
+          (λ w. (w .0 .taken, w .2)) (λ w. (w .0 .left, w .1)) (c .if1 .came)),
     )
 
 returns : tie.Need-returns Inv-loop μ-loop
@@ -40,5 +37,5 @@ returns c = λ k h. c .before .loop .inv .2 k (omega arith)
 pub masked3-spec : {M : Type 1} → statement M
 masked3-spec =
     tie.close
-    (tie.spec Inv-loop μ-loop loop-holds (λ c. search needs) (λ c. search needs) (λ c. search needs) (λ c. search needs) (λ c. search needs)
-    (λ c. search needs) loop-again returns)
+    (tie.spec Inv-loop μ-loop (λ c. search needs) (λ c. search needs) loop-holds (λ c. search needs) (λ c. search needs) (λ c. search needs) (λ c. search needs)
+    (λ c. search needs) (λ c. search needs) (λ c. search needs) (λ c. search needs) loop-again returns)
