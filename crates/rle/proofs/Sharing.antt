@@ -18,7 +18,7 @@ use Rattle.base.specs.Picks.{pick}
 use Rattle.picture.specs.Sizes.{refusal, Frame}
 use Rattle.base.proofs.Tests.{by-test}
 use Rattle.definition.specs.Orders.{Kind, FgBgImage, SetFgBgImage, SpecialFgBg1, SpecialFgBg2, White, Black, NoOrder}
-use Rattle.definition.specs.Decode.{solid, fgInk, bgInk, maskInk, State, state, orderOf}
+use Rattle.definition.specs.Decode.{Ink, solid, fgInk, bgInk, maskInk, State, state, orderOf}
 use Rattle.definition.specs.Plan.{refused, Counts, counts, behind, withOperands, runCounts, countsOf, leavesInsert, foregroundBy, imageInk, kindInk, leaves, insertIn, foregroundIn}
 use Rattle.rle.specs.Planning.{countsIn}
 use Rattle.rle.specs.Painting.{Paintable, Painted, inkOf, MaskInks}
@@ -95,14 +95,12 @@ unfolding insertIn leaves
 image-leaves true = refl
 image-leaves false = refl
 
--- its ink, in the state s, by the masks behind the foreground
-image-ink : (f : Frame) (s : State) (pos : ℕ) (src : List ℕ) → s .left ≡ drop pos src → (t : Bool) (j : ℕ)
-    → imageInk (fgInk (s .firstRow) (foregroundBy (f .bytes) (pick t SetFgBgImage FgBgImage) (s .foreground) (s .left))) (bgInk (s .firstRow) (f .black))
-    (drop (pos + pick t (f .bytes) 0) src) j
-    ≡ inkBy f (pick t SetFgBgImage FgBgImage) s j
-unfolding kindInk foregroundIn leaves
-image-ink f s pos src e true j = rw (e, drop-drop)
-image-ink f s pos src e false j = rw (e, add-zero)
+-- its ink, by the masks behind the foreground
+pub image-ink : (f : Frame) (i : Bool) (fg bg : Ink) (pos : ℕ) (src : List ℕ) (t : Bool) (j : ℕ)
+    → imageInk fg bg (drop (pos + pick t (f .bytes) 0) src) j ≡ kindInk f (pick t SetFgBgImage FgBgImage) i fg bg (drop pos src) j
+unfolding kindInk
+image-ink f i fg bg pos src true j = rw drop-drop
+image-ink f i fg bg pos src false j = rw add-zero
 
 -- those masks are enough for the pixels
 pub image-enough : (D n a R : ℕ) (t : Bool) → countsOf D (pick t SetFgBgImage FgBgImage) n a R .pixels ≤ (a - pick t D 0) * 8
@@ -120,7 +118,7 @@ module _ (f : CodeFrame) (src dst : List ℕ) (s : CodeState) (t : Bool) {u : Co
   image-inks k n p =
       painted-as
       (λ m _. (λ h. imageInk (fg-is s state fg h) (bg-is f s state bg h) (drop (s .pos + sized h) src) m)
-      ∙ image-ink (frameOf f) (stateOf (frameOf f) src dst s) (s .pos) src refl t m)
+      ∙ image-ink (frameOf f) _ _ _ (s .pos) src t m)
       p
 
   pub image-paintable : {n : ℕ} → Ready (length dst) (frameOf f) s n → (p : CodePlan)

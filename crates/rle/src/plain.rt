@@ -1,8 +1,8 @@
 // A decoder that works out depth and row distance at each pixel. It meets the contract of `rle::decompress`, so both give the same;
 // the crate two_decoders has that as the contract of two calls.
 //
-// Of the functions that take a state it shares only the small ones of state.rt with the other decoder: a larger one that two loops
-// call would be slower for both.
+// It shares no function that takes a state with the other decoder: its loop and its orders write the state's fields themselves. What
+// both call takes numbers, bytes, a frame, a plan or an ink: heads, plans, single pixels, the report.
 ghost use Rattle.rle.specs.Report.{Decompresses};
 
 pub(crate) mod beside;

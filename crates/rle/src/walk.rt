@@ -1,5 +1,6 @@
 // A walk over a stream's orders by their plans, without a target: the same plans as the decoder's, in a dispatch of its own, since one
-// that two loops call would be slower for both. The state keeps the foreground of the start: no plan looks at it.
+// that two loops call would be slower for both. The plain decoder plans by it too, but no library for C has both of these loops. The
+// state keeps the foreground of the start: no plan looks at it.
 ghost use mathlib.Core.Path.{_≡_};
 ghost use Prim.Native.Nat.{_≤_, _<_};
 ghost use Rattle.definition.specs.Codes as codes;

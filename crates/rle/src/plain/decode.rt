@@ -1,5 +1,9 @@
 // The plain decoder's loop over the stream's orders.
+ghost use mathlib.Core.Path.{_≡_};
+ghost use mathlib.Core.Bool.{false};
+ghost use lib.Dec.{ltb};
 ghost use lib.ListN.{length};
+ghost use Rattle.base.specs.Picks.{pick};
 ghost use Rattle.rle.specs.States.{frameOf, Framed};
 ghost use Rattle.rle.specs.Orders.{Decodes};
 use crate::head::Head;
@@ -10,11 +14,30 @@ use crate::plain::order::order;
 use crate::plan::Ending;
 use crate::state::Frame;
 use crate::state::Stepped;
-use crate::state::completed;
-use crate::state::end_first_row;
-use crate::state::moved;
-use crate::state::refused;
 use crate::state::start;
+
+// Whether an order that starts with k pixels painted is still in the first row of w pixels: once the row has ended, it has for good.
+pub(crate) fn still_first_row(first: bool, k: usize, w: usize) -> bool
+    ensures { λ r. ⌜ r ≡ pick first (ltb k w) false ⌝ }
+{
+    if first {
+        return k < w;
+    }
+    false
+}
+
+// A pending insert is dropped where the first row ends.
+pub(crate) fn insert_kept(insert: bool, first: bool, k: usize, w: usize) -> bool
+    ensures { λ r. ⌜ r ≡ pick first (pick (ltb k w) insert false) insert ⌝ }
+{
+    if first {
+        if k < w {
+            return insert;
+        }
+        return false;
+    }
+    insert
+}
 
 // All orders of the stream.
 pub(crate) fn decode(src: &[u8], dst: &mut [u8], f: Frame) -> Stepped
@@ -26,12 +49,26 @@ pub(crate) fn decode(src: &[u8], dst: &mut [u8], f: Frame) -> Stepped
     let mut s = start(f);
     loop {
         let h = read_head(src, &kinds, &lengths, s.pos);
-        let t = end_first_row(f, s);
+        let mut t = s;
+        t.insert = insert_kept(s.insert, s.first_row, s.pixels, f.width);
+        t.first_row = still_first_row(s.first_row, s.pixels, f.width);
         match h {
-            Head::End => return completed(s),
-            Head::Refused(e, next) => return refused(e, moved(t, next)),
+            Head::End => {
+                return Stepped {
+                    ending: Ending::Complete,
+                    state: s,
+                };
+            }
+            Head::Refused(e, next) => {
+                t.pos = next;
+                return Stepped {
+                    ending: Ending::Refused(e),
+                    state: t,
+                };
+            }
             Head::Order(kind, n, next) => {
-                let r = order(src, dst, f, moved(t, next), kind, n);
+                t.pos = next;
+                let r = order(src, dst, f, t, kind, n);
                 let e = r.ending;
                 if let Ending::Refused(_) = e {
                     return r;

@@ -33,33 +33,33 @@ same-length c = c .before .before .before .before .before .before .before .loop 
 
 returns : tie.Need-returns Inv-loop μ-loop
 returns c =
-    let t = c .before in
-    let r = t .before .before .before in
-    rw (c .completed .ensures) (between-end _ _ _ _ _ (r .before .before .before .loop .inv) refl (rw (t .enum-told .given .1) at (r .read-head .ensures)))
+    let r = c .before .before .before .before in
+    between-end _ _ _ _ _ (r .before .before .before .loop .inv) refl (rw (c .enum-told .given .1) at (r .read-head .ensures))
 
 same-length-2 : tie.Need-same-length-2 Inv-loop μ-loop
-same-length-2 c = c .before .before .before .before .before .before .before .before .before .loop .inv .same
+same-length-2 c = c .before .before .before .before .before .before .before .before .loop .inv .same
 
 returns-2 : tie.Need-returns-2 Inv-loop μ-loop
 returns-2 c =
-    let m = c .before in
-    let r = m .before .before .before .before .before in
+    let t = c .before .before .before in
+    let r = t .before .before in
     let l = r .before .before .before .loop in
-    let f = r .before .before .before .before .before .before .before .before .before .args .f in
-    let at = rw (m .before .before .h .given .1) at (r .read-head .ensures) in
-    let inside : l .s .pos < length (r .before .before .before .before .before .before .before .before .before .args .src .now) = omega (arith, at .reads, at .place) in
-    let marked = between-marked f _ _ _ (l .s) (l .inv) inside in
-    rw (c .refused .ensures, m .moved .ensures, m .before .before .before .before .end-first-row .ensures)
-    (decodes-refused _ _ _ _ _ marked inside _ _ (order-refused f _ _ (firstRowEnded f (l .s)) (row-again f (l .s)) at (marked .invariant)) _ refl)
+    let a = r .before .before .before .before .before .before .before .before .before .args in
+    let at = rw (c .before .h .given .1) at (r .read-head .ensures) in
+    let inside : l .s .pos < length (a .src .now) = omega (arith, at .reads, at .place) in
+    let marked = between-marked (a .f) _ _ _ (l .s) (l .inv) inside in
+    rw (t .before .insert-kept .ensures, t .still-first-row .ensures)
+    (decodes-refused _ _ _ _ _ marked inside _ _ (order-refused (a .f) _ _ (firstRowEnded (a .f) (l .s)) (row-again (a .f) (l .s)) at (marked .invariant)) _ refl)
 
 order-requires : tie.Need-order-requires Inv-loop μ-loop
 order-requires c κs =
-    let h = c .before .before .before in
-    let r = h .before .before .before in
+    let h = c .before .before in
+    let t = h .before .before in
+    let r = t .before .before in
     let l = r .before .before .before .loop in
     let s = r .before .before .before .before .before .before .before .before .before in
     let at = rw (h .h2 .given .1) at (r .read-head .ensures) in
-    rw (c .moved2 .ensures, h .before .before .end-first-row .ensures)
+    rw (t .before .insert-kept .ensures, t .still-first-row .ensures)
     (record { frame = rw (l .inv .same) (s .pre); invariant = invariant-at _ (invariant-marked (s .args .f) (l .s) (l .inv .invariant)); some = at .some; few = at .few }, (at .place, at .fixed .0))
 
 -- the order is the definition's step from the state behind the first row's end, and reads on
@@ -71,12 +71,13 @@ executes : (c : tie.After-order Inv-loop μ-loop)
     × (l .loop .s .pos < c .order .result .state .pos)
     × (l .loop .s .pos < length (a .src .now))
 executes c =
-    let h = c .before .before .before .before in
-    let r = h .before .before .before in
+    let h = c .before .before .before in
+    let t = h .before .before in
+    let r = t .before .before in
     let l = r .before .before .before .loop in
     let a = r .before .before .before .before .before .before .before .before .before .args in
     let at = rw (h .h2 .given .1) at (r .read-head .ensures) in
-    let d = rw (c .before .moved2 .ensures, h .before .before .end-first-row .ensures) at (c .order .ensures) in
+    let d = rw (t .before .insert-kept .ensures, t .still-first-row .ensures) at (c .order .ensures) in
     let inside : l .s .pos < length (a .src .now) = omega (arith, at .reads, at .place) in (
       between-marked (a .f) _ _ _ (l .s) (l .inv) inside,
       order-executes (a .f) _ _ (firstRowEnded (a .f) (l .s)) (row-again (a .f) (l .s)) at _ _ d,
@@ -109,6 +110,5 @@ pub decode-spec : {M : Type 1} → statement M
 decode-spec =
     tie.close
     (tie.spec Inv-loop μ-loop (λ c κs. search needs) (λ c κs. search needs) (λ c κs. search needs) loop-holds read-head-requires
-    (λ c κs. search needs) (λ c. search needs) (λ c κs. search needs) same-length returns (λ c. search needs) (λ c κs. search needs)
-    (λ c κs. search needs) same-length-2 returns-2 (λ c. search needs) (λ c κs. search needs) order-requires (λ c. search needs)
-    same-length-3 returns-3 (λ c. search needs) loop-less loop-again)
+    (λ c κs. search needs) (λ c κs. search needs) (λ c. search needs) same-length returns (λ c. search needs) same-length-2 returns-2
+    (λ c. search needs) order-requires (λ c. search needs) same-length-3 returns-3 (λ c. search needs) loop-less loop-again)
