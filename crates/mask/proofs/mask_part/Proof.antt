@@ -15,7 +15,7 @@ use Rattle.mask.proofs.mask_part.Tie as tie
 returns : tie.Need-returns
 returns c =
     let a = c .before .before .before .args in
-    no-masks _ (a .d) (a .at) (a .row) (a .n) (a .first) (both (leb (a .n) 8) (there (a .pos) 1 (a .src .now))) (a .dst .now) (first-fails _ _ (lt-leb (a .n) 8 (c .if1 .taken)))
+    no-masks _ (a .d) (a .at) (a .row) (a .n) (a .first) (both (leb (a .n) 8) (there (a .pos) 1 (a .src .now))) (a .dst .now) (first-fails _ _ (lt-leb (a .n) 8 (omega arith)))
 
 returns-2 : tie.Need-returns-2
 returns-2 c =
