@@ -48,12 +48,12 @@ pub(crate) fn pairs2(dst: &mut [u8], at: usize, n: usize, a: u8, b: u8, c: u8, d
     repeat48(dst, at, n * 4);
 }
 
-// n pairs of pixels of three bytes.
+// n pairs of pixels of three bytes. Here no more than 48 bytes are stored by the loop: it has too few registers for all six of a pair.
 pub(crate) fn pairs3(dst: &mut [u8], at: usize, n: usize, a: u8, b: u8, c: u8, d: u8, e: u8, f: u8)
     requires { ⌜ at + n * 6 ≤ length (now dst) ⌝ }
     ensures { λ _. ⌜ now (dst .exit) ≡ run (bytes (turn (a ∷ b ∷ c ∷ d ∷ e ∷ f ∷ []) 6)) at (n * 6) (now (dst .entry)) ⌝ }
 {
-    if n <= 16 {
+    if n <= 8 {
         fill6(dst, at, n, a, b, c, d, e, f);
         return;
     }
