@@ -12,6 +12,7 @@ use pictures::{
     color_image, fgbg_image, run, short_order, stream_of, Order, Writer, BACKGROUND, COLOR,
     DITHERED, FOREGROUND, SET_FOREGROUND,
 };
+use std::cell::RefCell;
 use std::hint::black_box;
 use std::iter::zip;
 
@@ -100,14 +101,17 @@ impl Load {
         }
     }
 
-    /// Seconds of each decoder, the best of the rounds.
-    fn time(&self, [plain, writers, rust]: &mut [Vec<u8>; 3], rounds: usize) -> [f64; 3] {
+    /// Seconds of each decoder, the best of the rounds. All decode into one target: where it lies in memory
+    /// makes up to a fifth of the time of a picture that comes from there.
+    fn time(&self, target: &mut Vec<u8>, rounds: usize) -> [f64; 3] {
+        let target = RefCell::new(target);
+        let time = |decode: Decoder| self.decode(decode, &mut target.borrow_mut());
         fastest(
             rounds,
             [
-                &mut || self.decode(by_plain_loop, plain),
-                &mut || self.decode(by_run_writers, writers),
-                &mut || self.decode(by_rle_rs, rust),
+                &mut || time(by_plain_loop),
+                &mut || time(by_run_writers),
+                &mut || time(by_rle_rs),
             ],
         )
     }
@@ -139,7 +143,7 @@ fn main() {
             }
             let load = Load::new(order, side, (bpp, pixel));
             load.compare(&mut targets);
-            table += &row(name, bpp, load.time(&mut targets, rounds));
+            table += &row(name, bpp, load.time(&mut targets[0], rounds));
         }
     }
     println!(
