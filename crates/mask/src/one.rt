@@ -36,12 +36,12 @@ fn mixed8(src: &[u8], from: usize, w: &[u8; 8]) -> [u8; 8]
 fn masked1(m: u8, a: u8) -> [u8; 8]
     ensures { λ r. ⌜ ((k : ℕ) → k < 8 → getD r k 0 ≡ inked m a k) ⌝ }
 {
-    let x = (m as u16) * 257;
+    let twice = (m as u16) * 257;
     let bits: [u16; 8] = [256, 512, 1024, 2048, 16, 32, 64, 128];
     let mut t: [u8; 8] = [0; 8];
     let mut i = 0;
     while i < 8 {
-        t[i] = if x & bits[i] == bits[i] { a } else { 0 };
+        t[i] = if twice & bits[i] == bits[i] { a } else { 0 };
         i += 1;
     }
     t

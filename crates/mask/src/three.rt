@@ -50,7 +50,7 @@ fn eight3(a: u8, b: u8, c: u8) -> [u8; 24]
 fn masked3(m: u8, p: &[u8; 24]) -> [u8; 24]
     ensures { λ r. ⌜ ((k : ℕ) → k < 24 → getD r k 0 ≡ inkedBy m 3 (now (p .entry)) k) ⌝ }
 {
-    let x = (m as u16) * 257;
+    let twice = (m as u16) * 257;
     let bits: [u16; 24] = [
         256,
         256,
@@ -80,7 +80,7 @@ fn masked3(m: u8, p: &[u8; 24]) -> [u8; 24]
     let mut t: [u8; 24] = [0; 24];
     let mut i = 0;
     while i < 24 {
-        t[i] = if x & bits[i] == bits[i] { p[i] } else { 0 };
+        t[i] = if twice & bits[i] == bits[i] { p[i] } else { 0 };
         i += 1;
     }
     t

@@ -49,7 +49,7 @@ fn eight2(a: u8, b: u8, c: u8) -> [u8; 16]
 fn masked2(m: u8, p: &[u8; 16]) -> [u8; 16]
     ensures { λ r. ⌜ ((k : ℕ) → k < 16 → getD r k 0 ≡ inkedBy m 2 (now (p .entry)) k) ⌝ }
 {
-    let x = (m as u16) * 257;
+    let twice = (m as u16) * 257;
     let bits: [u16; 16] = [
         256,
         256,
@@ -71,7 +71,7 @@ fn masked2(m: u8, p: &[u8; 16]) -> [u8; 16]
     let mut t: [u8; 16] = [0; 16];
     let mut i = 0;
     while i < 16 {
-        t[i] = if x & bits[i] == bits[i] { p[i] } else { 0 };
+        t[i] = if twice & bits[i] == bits[i] { p[i] } else { 0 };
         i += 1;
     }
     t

@@ -12,10 +12,10 @@ use Rattle.mask.proofs.one.masked1.Statement.{statement}
 use Rattle.mask.proofs.one.masked1.Tie as tie
 
 abbrev Inv-loop : tie.InvT-loop
-Inv-loop m a x bits t₀ i₀ t i = (i ≤ 8) × (length t ≡ 8) × ((k : ℕ) → k < i → getD t k 0 ≡ inked m a k)
+Inv-loop m a twice bits t₀ i₀ t i = (i ≤ 8) × (length t ≡ 8) × ((k : ℕ) → k < i → getD t k 0 ≡ inked m a k)
 
 abbrev μ-loop : tie.MeasureT-loop
-μ-loop m a x bits t₀ i₀ t i = 8 - i
+μ-loop m a twice bits t₀ i₀ t i = 8 - i
 
 loop-holds : tie.Need-loop-holds Inv-loop μ-loop
 loop-holds c = (search needs, search needs, λ k h. absurd (not-suc-le-zero h))

@@ -12,10 +12,10 @@ use Rattle.mask.proofs.three.masked3.Statement.{statement}
 use Rattle.mask.proofs.three.masked3.Tie as tie
 
 abbrev Inv-loop : tie.InvT-loop
-Inv-loop m p x bits t₀ i₀ t i = (i ≤ 24) × (length t ≡ 24) × ((k : ℕ) → k < i → getD t k 0 ≡ inkedBy m 3 p k)
+Inv-loop m p twice bits t₀ i₀ t i = (i ≤ 24) × (length t ≡ 24) × ((k : ℕ) → k < i → getD t k 0 ≡ inkedBy m 3 p k)
 
 abbrev μ-loop : tie.MeasureT-loop
-μ-loop m p x bits t₀ i₀ t i = 24 - i
+μ-loop m p twice bits t₀ i₀ t i = 24 - i
 
 loop-holds : tie.Need-loop-holds Inv-loop μ-loop
 loop-holds c = (search needs, search needs, λ k h. absurd (not-suc-le-zero h))

@@ -12,10 +12,10 @@ use Rattle.mask.proofs.two.masked2.Statement.{statement}
 use Rattle.mask.proofs.two.masked2.Tie as tie
 
 abbrev Inv-loop : tie.InvT-loop
-Inv-loop m p x bits t₀ i₀ t i = (i ≤ 16) × (length t ≡ 16) × ((k : ℕ) → k < i → getD t k 0 ≡ inkedBy m 2 p k)
+Inv-loop m p twice bits t₀ i₀ t i = (i ≤ 16) × (length t ≡ 16) × ((k : ℕ) → k < i → getD t k 0 ≡ inkedBy m 2 p k)
 
 abbrev μ-loop : tie.MeasureT-loop
-μ-loop m p x bits t₀ i₀ t i = 16 - i
+μ-loop m p twice bits t₀ i₀ t i = 16 - i
 
 loop-holds : tie.Need-loop-holds Inv-loop μ-loop
 loop-holds c = (search needs, search needs, λ k h. absurd (not-suc-le-zero h))
