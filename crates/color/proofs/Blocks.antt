@@ -5,34 +5,17 @@ use mathlib.Core.Bool.{Bool, true, false}
 use Prim.Native.Nat.{ℕ, _+_, _-_, _≤_, _<_}
 use native.Mathlib.Numerals.{add-one}
 use native.Mathlib.Omega.{arith}
-use lib.Bits.{bitOr, bitXor, and-le-l, and-le-r, or-add-and, xor-add-and, xor-self}
+use lib.Bits.{bitOr, bitXor}
 use lib.Dec.{eqb}
 use lib.ListN.{getD, drop}
 use lib.Seq.{getD-drop}
 use borrow.Author.Tests.{eqb-true, eq-eqb}
-use Rattle.base.proofs.Tests.{by-less, clash, both-true}
-use Rattle.color.specs.Colors.{both}
+use Rattle.base.proofs.Tests.{by-less, clash, same-test}
+use Rattle.base.proofs.Differences.{gathered}
 use Rattle.color.specs.SamePicture.{everyBelow, sameBytes}
-use Rattle.color.proofs.Every.{not-yes, same-test, every-passes, passes-every}
+use Rattle.color.proofs.Every.{not-yes, every-passes, passes-every}
 
 -- ---- one byte more
-
-or-zero : (x y : ℕ) → bitOr x y ≡ 0 → (x ≡ 0) × (y ≡ 0)
-or-zero x y e = (omega (arith, e, or-add-and x y, and-le-r x y), omega (arith, e, or-add-and x y, and-le-l x y))
-
-xor-zero : (x y : ℕ) → bitXor x y ≡ 0 → x ≡ y
-xor-zero x y e = omega (arith, e, xor-add-and x y, and-le-l x y, and-le-r x y)
-
--- the differences gathered so far are none exactly if they were none before and the next two bytes are the same
-gathered : (d x y : ℕ) → eqb (bitOr d (bitXor x y)) 0 ≡ both (eqb d 0) (eqb x y)
-gathered d x y =
-    same-test (eqb (bitOr d (bitXor x y)) 0) (both (eqb d 0) (eqb x y))
-    (λ h.
-    let z = or-zero d (bitXor x y) (eqb-true (bitOr d (bitXor x y)) 0 h) in
-    rw (eq-eqb d 0 (z .0)) (eq-eqb x y (xor-zero x y (z .1))))
-    (λ h.
-    let z = both-true (eqb d 0) (eqb x y) h in
-    rw (eqb-true d 0 (z .0), eqb-true x y (z .1), xor-self y) refl)
 
 module _ (xs ys : List ℕ) where
   pub no-bytes : sameBytes xs ys 0 ≡ true

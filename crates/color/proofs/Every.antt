@@ -1,16 +1,10 @@
--- Laws of a test that every number below n passes, and of two tests. Assumes nothing.
-use mathlib.Core.Path.{_≡_, refl, sym}
+-- Laws of a test that every number below n passes. Assumes nothing.
+use mathlib.Core.Path.{_≡_, refl}
 use mathlib.Core.Bool.{Bool, true, false}
 use Prim.Native.Nat.{ℕ, zero, suc, _<_}
 use native.Mathlib.Omega.{arith}
 use Rattle.base.proofs.Tests.{before-or-last, both-true}
 use Rattle.color.specs.SamePicture.{everyBelow}
-
--- two tests, each of which holds where the other does
-pub same-test : (s t : Bool) → (s ≡ true → t ≡ true) → (t ≡ true → s ≡ true) → s ≡ t
-same-test true t f g = sym (f refl)
-same-test false true f g = g refl
-same-test false false f g = refl
 
 pub not-yes : (t : Bool) → (t ≡ true → ⊥) → false ≡ t
 not-yes true h = absurd (h refl)

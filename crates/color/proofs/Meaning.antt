@@ -8,7 +8,7 @@ use native.Mathlib.Omega.{arith}
 use lib.Dec.{eqb}
 use lib.ListN.{getD}
 use borrow.Author.Tests.{eqb-true, eq-eqb}
-use Rattle.base.proofs.Tests.{both-true}
+use Rattle.base.proofs.Tests.{both-true, same-test}
 use Rattle.picture.specs.Pixels.{pixelAt, firstPixel}
 use Rattle.picture.specs.Sizes.{depths, depthIndex, depthOf, accept, checked, sizeOf, hasSpace}
 use Rattle.picture.proofs.Depths.{depth-good}
@@ -16,7 +16,7 @@ use Rattle.picture.proofs.Pixels.{pixelAt-cong}
 use Rattle.color.specs.Colors.{both, channel, colorOf, expandWord, paletteFits, sameTriple, word}
 use Rattle.color.specs.SamePicture.{Picture, Alike, picture, valid, colorAt, everyBelow, sameBytes, sameColors, samePicture, sameStored}
 use Rattle.color.proofs.Blocks.{same-bytes, bytes-same}
-use Rattle.color.proofs.Every.{not-yes, same-test, passes-every}
+use Rattle.color.proofs.Every.{not-yes, passes-every}
 use Rattle.color.proofs.Valid.{valid-painted}
 use Rattle.color.proofs.Triples.{equal-same}
 

@@ -2,7 +2,7 @@
 -- them a depth uses: so many stand in the stream and in the picture.
 use mathlib.Core.Path.{_≡_}
 use mathlib.Core.List.{List, [], _∷_, _++_}
-use Prim.Native.Nat.{ℕ, _*_}
+use Prim.Native.Nat.{ℕ, zero, suc, _*_}
 use lib.Dec.{ltb}
 use lib.ListN.{getD, take, drop}
 use lib.Bits.{bitXor}
@@ -22,6 +22,11 @@ OfDepth D p = firstPixel D p ≡ p
 -- pixel number k of the bytes xs
 unfoldable pub pixelAt : ℕ → List ℕ → ℕ → Pixel
 pixelAt D xs k = firstPixel D (drop (k * D) xs)
+
+-- the first n pixels of the bytes xs
+unfoldable pub pixelsOf : ℕ → ℕ → List ℕ → List Pixel
+pixelsOf D zero xs = []
+pixelsOf D (suc n) xs = pixelsOf D n xs ++ (pixelAt D xs n ∷ [])
 
 -- the bytes of the pixels ps in order, D each
 unfoldable pub bytesOf : ℕ → List Pixel → List ℕ

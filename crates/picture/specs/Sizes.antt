@@ -9,7 +9,7 @@ use Rattle.picture.specs.Pixels.{Pixel}
 
 -- a refusal's number and its two values
 --   1 bpp not in the depth table (bpp), 2 width or height 0, 3 width or height above 8,192 (width, height),
---   4 target too short (bytes needed, given), 5 the header is no order, 6 stream too short (bytes expected, left),
+--   4 target or pixel buffer too short (bytes needed, given), 5 the header is no order, 6 stream too short (bytes expected, left),
 --   7 order longer than the picture (picture bytes left, bytes required), 8 a two-byte length of 0
 pub record Refusal : Type 0 where
   pub number : ℕ
@@ -69,7 +69,7 @@ checked bpp w h =
     (pick (ltb 8192 w) (refused (refusal 3 w h))
     (pick (ltb 8192 h) (refused (refusal 3 w h)) (accept (depthOf bpp) w h)))))
 
--- refusal 4, for a target of `given` bytes
+-- refusal 4, for a target or pixel buffer of `given` bytes
 unfoldable pub withSpace : ℕ → Checked → Checked
 withSpace given (refused r) = refused r
 withSpace given (accepted f k) =

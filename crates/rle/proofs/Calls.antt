@@ -23,7 +23,7 @@ use Rattle.rle.specs.Report.{summaryIn, Agrees, Decompresses}
 use Rattle.rle.specs.States.{frameOf, stateOf, Framed}
 use Rattle.rle.specs.Orders.{Decodes, runIn}
 use Rattle.rle.specs.Reporting.{refusalAfter, formatAfter, summaryAfter, notDecoded}
-use Rattle.rle.proofs.Pixels.{length-pixelsOf, bytes-pixels}
+use Rattle.picture.proofs.Pixels.{length-pixelsOf, bytes-pixels}
 use Rattle.picture.proofs.Depths.{Good, depth-good}
 use Rattle.picture.proofs.Sizes.{few, sized, size-refused}
 use Rattle.definition.proofs.Bounds.{Bytes, last, decode-bounds}

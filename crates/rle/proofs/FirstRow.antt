@@ -12,7 +12,7 @@ use Rattle.base.specs.Picks.{pick}
 use Rattle.definition.specs.Orders.{headOf}
 use Rattle.definition.specs.Decode.{State, orderFrom, endFirstRow, step}
 use Rattle.rle.specs.States.{Invariant, frameOf, stateOf, rowAbove, firstRowEnded}
-use Rattle.rle.proofs.Pixels.{length-pixelsOf}
+use Rattle.picture.proofs.Pixels.{length-pixelsOf}
 use Rattle.base.proofs.Tests.{both-true}
 
 -- the marks of a row that stays

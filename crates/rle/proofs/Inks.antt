@@ -15,13 +15,13 @@ use Rattle.rle.specs.declared.paint.Ink.{Ink as CodeInk}
 use Rattle.base.specs.Picks.{pick}
 use Rattle.picture.specs.Pixels.{Pixel, OfDepth}
 use Rattle.picture.specs.Sizes.{Frame}
-use Rattle.picture.proofs.Pixels.{zeros-of-depth}
+use Rattle.picture.proofs.Pixels.{zeros-of-depth, of-depth}
 use Rattle.base.proofs.Tests.{by-test}
 use Rattle.definition.specs.Decode.{solid, fgInk, bgInk, insertInk}
 use Rattle.definition.specs.Plan.{newForeground, imageInk, Left, anInsert, aForeground, nothing, foregroundIn}
 use Rattle.rle.specs.Painting.{MaskInks, Painted, ofMode, inkOf, reach}
 use Rattle.rle.specs.States.{Framed, Invariant, rowAbove, rowMode, rowInk, fgOf, bgOf, withFg}
-use Rattle.rle.proofs.Painting.{of-depth, painted-as}
+use Rattle.rle.proofs.Painting.{painted-as}
 
 -- ---- where they can be painted
 

@@ -20,7 +20,7 @@ use Rattle.rle.specs.Planning.{countsIn, endingIn}
 use Rattle.rle.specs.Painting.{HasPlace, Paintable, Painted, reach}
 use Rattle.rle.specs.States.{stateOf, withFg, Fits, finishedOf}
 use Rattle.rle.specs.Orders.{Ready, Executes, stepIn}
-use Rattle.rle.proofs.Pixels.{length-pixelsOf}
+use Rattle.picture.proofs.Pixels.{length-pixelsOf}
 use Rattle.definition.proofs.Masks.{acted}
 use Rattle.definition.proofs.Planned.{inkBy, kind-acted, Within, kind-within, orders-few, operands-there, image-read, pairs-read}
 use Rattle.rle.proofs.Inks.{foreground-of-depth}

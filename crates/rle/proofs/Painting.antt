@@ -16,21 +16,17 @@ use Rattle.rle.specs.declared.paint.Mode.the-variants.{Solid, Above, Abo
 use Rattle.rle.specs.declared.paint.Ink.{Ink as CodeInk}
 use Rattle.base.specs.Picks.{pick}
 use Rattle.base.proofs.Tests.{clash}
-use Rattle.picture.specs.Pixels.{Pixel, firstPixel, pixelAt, bytesOf, xorPixel, OfDepth}
+use Rattle.picture.specs.Pixels.{Pixel, firstPixel, pixelAt, pixelsOf, bytesOf, xorPixel, OfDepth}
 use Rattle.definition.specs.Decode.{Ink, solid, color, paint, pixelAbove, fgInk, bgInk, insertInk, maskInk, ditherInk}
 use Rattle.definition.specs.Plan.{imageInk}
-use Rattle.rle.specs.Stored.{pixelsOf, storePixel}
+use Rattle.rle.specs.Stored.{storePixel}
 use Rattle.rle.specs.Painting.{HasPlace, Paintable, PaintedOne, MaskInks, Painted, ofMode, isSolid, reach, inkOf, solidInk}
-use Rattle.picture.proofs.Pixels.{first-pixel-cong, getD-first-pixel, length-first-pixel}
+use Rattle.picture.proofs.Pixels.{length-first-pixel, of-depth, length-pixelsOf, getD-pixelsOf, bytes-pixels}
 use Rattle.definition.proofs.Painting.{paint-cong, paint-add}
-use Rattle.rle.proofs.Pixels.{length-pixelsOf, getD-pixelsOf, store-before, store-there, store-after, bytes-pixels}
+use Rattle.rle.proofs.Pixels.{store-before, store-there, store-after}
 
 -- ---- colors have their unused bytes zero
 
-pub of-depth : (D : ℕ) (xs : List ℕ) → 1 ≤ D → D ≤ 3 → OfDepth D (firstPixel D xs)
-of-depth D xs low high = first-pixel-cong D (firstPixel D xs) xs low (λ i b. getD-first-pixel D xs i b high)
-
--- so has a pixel that is read
 pub read-of-depth : {D : ℕ} {p : Pixel} (xs : List ℕ) → 1 ≤ D → D ≤ 3 → p ≡ firstPixel D xs → OfDepth D p
 read-of-depth {D} xs low high e = rw e (of-depth D xs low high)
 

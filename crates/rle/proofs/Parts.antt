@@ -14,7 +14,7 @@ use borrow.Author.Tests.{le-leb}
 use Rattle.base.specs.Picks.{pick}
 use Rattle.base.proofs.Tests.{by-test}
 use Rattle.picture.specs.Pixels.{Pixel, pixelAt, OfDepth}
-use Rattle.picture.proofs.Pixels.{three}
+use Rattle.picture.proofs.Pixels.{three, length-of-depth}
 use Rattle.definition.specs.Decode.{solid, above, aboveXor, fgInk, bgInk, ditherInk}
 use Rattle.definition.specs.Plan.{imageInk}
 use Rattle.byte_runs.specs.Runs as runs
@@ -23,7 +23,7 @@ use Rattle.byte_runs.proofs.Fits.{both-hold, is-there, pixels-there}
 use Rattle.byte_runs.proofs.Parts.{in-part, length-part}
 use Rattle.byte_runs.proofs.Runs.{run-cong}
 use Rattle.rle.specs.Painting.{HasPlace, Painted}
-use Rattle.rle.proofs.Writers.{fill-painted, back-painted, xor-painted, image-painted, dither-painted, rows-painted, length-of-depth}
+use Rattle.rle.proofs.Writers.{fill-painted, back-painted, xor-painted, image-painted, dither-painted, rows-painted}
 
 -- the bytes of a pixel, one by one
 abbrev bytesIn : Pixel → List ℕ

@@ -18,7 +18,7 @@ use Rattle.definition.specs.Codes.{kindOf}
 use Rattle.definition.specs.Decode.{thenRun, orderOf, orderFrom, withLeft, endFirstRow, step, start}
 use Rattle.definition.specs.Plan.{endWith}
 use Rattle.definition.proofs.Runs.{continues-start, continues-end, continues-refused, continues-on, continues-as}
-use Rattle.rle.specs.Stored.{pixelsOf}
+use Rattle.picture.specs.Pixels.{pixelsOf}
 use Rattle.rle.specs.Heads.{HeadAt, RefusedAt}
 use Rattle.rle.specs.Planning.{endingIn}
 use Rattle.rle.specs.States.{Framed, Invariant, frameOf, stateOf, firstRowEnded, atPos, refusedIn, startOf}

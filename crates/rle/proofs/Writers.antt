@@ -11,8 +11,8 @@ use lib.Bits.{bitXor, xor-zero-r}
 use lib.ListN.{length, getD, take, drop, List·getD-append}
 use lib.Seq.{getD-drop, getD-take, getD-append-add, length-take-le}
 use Rattle.base.specs.Picks.{pick}
-use Rattle.picture.specs.Pixels.{Pixel, pixelAt, xorPixel, OfDepth}
-use Rattle.picture.proofs.Pixels.{first-pixel-cong, getD-first-pixel, length-first-pixel, zeros-of-depth}
+use Rattle.picture.specs.Pixels.{Pixel, pixelAt, pixelsOf, xorPixel, OfDepth}
+use Rattle.picture.proofs.Pixels.{first-pixel-cong, getD-first-pixel, zeros-of-depth, of-depth, length-of-depth, pixels-cong}
 use Rattle.definition.specs.Decode.{Ink, solid, above, aboveXor, color, paint, pixelAbove, fgInk, bgInk, maskInk, ditherInk}
 use Rattle.definition.specs.Plan.{imageInk}
 use Rattle.byte_runs.specs.Runs as runs
@@ -21,10 +21,8 @@ use Rattle.byte_runs.proofs.Runs.{Backward, run-settled}
 use Rattle.byte_runs.proofs.Blocks.{backward-above}
 use Rattle.byte_runs.proofs.Pixels.{turn-byte}
 use Rattle.byte_runs.proofs.Parts.{take-run, drop-run}
-use Rattle.rle.specs.Stored.{pixelsOf}
 use Rattle.rle.specs.Painting.{Painted}
-use Rattle.rle.proofs.Pixels.{pixels-cong}
-use Rattle.rle.proofs.Painting.{of-depth, of-depth-xor, above-is, turn-pixel}
+use Rattle.rle.proofs.Painting.{of-depth-xor, above-is, turn-pixel}
 
 -- ---- a list that holds the pixels is painted
 
@@ -40,9 +38,6 @@ painted-of D w k n ink xs ys low kept rest each = record { pixels = so n (le-ref
         rw add-suc
         ((λ i. pixelsOf D (k + m) ys ++ (each m (omega arith) i ∷ []))
         ∙ ap (λ (ps : List Pixel). ps ++ (color w ps (ink m) ∷ [])) (so m (omega arith)))
-
-pub length-of-depth : (D : ℕ) (p : Pixel) → OfDepth D p → length p ≡ 3
-length-of-depth D p of = ap (λ (q : Pixel). length q) (sym of) ∙ length-first-pixel D p
 
 -- the pixel that some bytes are
 pixel-is : (D j : ℕ) (ys : List ℕ) (p : Pixel) → 1 ≤ D → OfDepth D p → ((i : ℕ) → i < D → getD ys (j * D + i) 0 ≡ getD p i 0) → pixelAt D ys j ≡ p

@@ -4,12 +4,11 @@ use mathlib.Core.List.{List, [], _∷_, _++_}
 use mathlib.Core.Bool.{Bool, true, false}
 use Prim.Native.Nat.{ℕ, _+_, _*_, _≤_}
 use lib.ListN.{length, drop}
-use Rattle.picture.specs.Pixels.{Pixel, OfDepth}
+use Rattle.picture.specs.Pixels.{Pixel, pixelsOf, OfDepth}
 use Rattle.definition.specs.Decode.{Ink, solid, above, aboveXor, color, paint, fgInk, bgInk}
 use Rattle.rle.specs.declared.paint.Mode.{Mode}
 use Rattle.rle.specs.declared.paint.Mode.the-variants.{Solid, Above, AboveXor}
 use Rattle.rle.specs.declared.paint.Ink.{Ink as CodeInk}
-use Rattle.rle.specs.Stored.{pixelsOf}
 
 abbrev pub ofMode : Mode → Pixel → Ink
 ofMode Solid p = solid p

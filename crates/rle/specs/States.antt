@@ -7,7 +7,7 @@ use Prim.Native.Nat.{ℕ, _+_, _*_, _≤_}
 use lib.Dec.{ltb}
 use lib.ListN.{drop}
 use Rattle.base.specs.Picks.{pick}
-use Rattle.picture.specs.Pixels.{Pixel, OfDepth}
+use Rattle.picture.specs.Pixels.{Pixel, pixelsOf, OfDepth}
 use Rattle.picture.specs.Sizes.{Frame}
 use Rattle.definition.specs.Decode.{State}
 use Rattle.definition.specs.Plan.{insertAfter, ordersAfter}
@@ -20,7 +20,6 @@ use Rattle.rle.specs.declared.plan.Plan.{Plan as CodePlan}
 use Rattle.rle.specs.declared.state.Frame.{Frame as CodeFrame}
 use Rattle.rle.specs.declared.state.State.{State as CodeState}
 use Rattle.rle.specs.declared.state.Stepped.{Stepped}
-use Rattle.rle.specs.Stored.{pixelsOf}
 use Rattle.rle.specs.Planning.{endingIn}
 
 abbrev pub frameOf : CodeFrame → Frame

@@ -5,9 +5,10 @@ use mathlib.Core.Path.{_≡_, refl, _∙_}
 use lib.ListN.{length, drop}
 use native.Mathlib.Omega.{arith}
 use Rattle.picture.specs.Pixels.{pixelAt}
+use Rattle.picture.proofs.Pixels.{of-depth}
 use Rattle.definition.specs.Decode.{solid}
 use Rattle.rle.specs.Painting.{Painted}
-use Rattle.rle.proofs.Painting.{painted-none, painted-more, painted-at, of-depth, one-stored, one-place, image-solid, image-fits}
+use Rattle.rle.proofs.Painting.{painted-none, painted-more, painted-at, one-stored, one-place, image-solid, image-fits}
 use Rattle.rle.proofs.plain.paint.paint_image.Statement.{statement}
 use Rattle.rle.proofs.plain.paint.paint_image.Tie as tie
 
