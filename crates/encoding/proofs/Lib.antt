@@ -1,0 +1,10 @@
+pub mod Stretches
+pub mod SamePixels
+pub mod HeadLengths
+pub mod Choices
+pub mod Rest
+pub mod Bound
+pub mod Heads
+pub mod Orders
+pub mod Trip
+pub mod RoundTrip

@@ -1,0 +1,5 @@
+pub mod Heads
+pub mod Encode
+pub mod Bound
+pub mod Compress
+pub mod Examples
