@@ -1,0 +1,5 @@
+pub mod Bytes
+pub mod Layouts
+pub mod Orders
+pub mod Writing
+pub mod Contracts
