@@ -43,6 +43,46 @@ static void decompress() {
          "nulambiro_decompress for a large picture");
 }
 
+static void compress() {
+  // Two rows of 4 pixels: three equal ones and another, and the same again.
+  const uint8_t pixels[9] = {5, 5, 5, 6, 5, 5, 5, 6, 7};
+  const uint8_t stream[5] = {0x63, 5, 0x81, 6, 0x04};
+  uint8_t output[6] = {9, 9, 9, 9, 9, 9};
+  Report report;
+  nulambiro_compress(pixels, sizeof pixels, output, sizeof output, 4, 2, 8,
+                     report.places);
+  expect(report[0] == 0 && report[NULAMBIRO_REFUSAL] == NULAMBIRO_OK &&
+             report[NULAMBIRO_COMPRESS_LENGTH] == sizeof stream &&
+             report[5] == 0 && report[6] == 0 && report[7] == 0 &&
+             std::memcmp(output, stream, sizeof stream) == 0 && output[5] == 9,
+         "nulambiro_compress");
+
+  Report shorter;
+  uint8_t small[4] = {9, 9, 9, 9};
+  const uint8_t untouched[4] = {9, 9, 9, 9};
+  nulambiro_compress(pixels, sizeof pixels, small, sizeof small, 4, 2, 8,
+                     shorter.places);
+  expect(shorter[NULAMBIRO_REFUSAL] == NULAMBIRO_OUTPUT_TOO_SHORT &&
+             shorter[NULAMBIRO_FIRST] == 0 && shorter[NULAMBIRO_SECOND] == 0 &&
+             shorter[NULAMBIRO_COMPRESS_LENGTH] == 0 &&
+             std::memcmp(small, untouched, sizeof small) == 0,
+         "nulambiro_compress for a short output");
+
+  Report none;
+  nulambiro_compress(nullptr, 0, nullptr, 0, 4, 2, 8, none.places);
+  expect(none[NULAMBIRO_REFUSAL] == NULAMBIRO_BUFFER_TOO_SHORT &&
+             none[NULAMBIRO_FIRST] == 8 && none[NULAMBIRO_SECOND] == 0,
+         "nulambiro_compress for missing pixels");
+
+  // 32 pixels of one byte in an image have a head of two bytes.
+  expect(nulambiro_compress_bound(4, 2, 8) == 9 &&
+             nulambiro_compress_bound(32, 1, 8) == 34 &&
+             nulambiro_compress_bound(4, 2, 24) == 25 &&
+             nulambiro_compress_bound(4, 2, 9) == 0 &&
+             nulambiro_compress_bound(8193, 2, 8) == 0,
+         "nulambiro_compress_bound");
+}
+
 static void colors() {
   uint8_t palette[NULAMBIRO_PALETTE_BYTES] = {0};
   const uint8_t entry[3] = {10, 20, 30};
@@ -105,6 +145,7 @@ static void rows() {
 
 int main() {
   decompress();
+  compress();
   colors();
   rows();
   return failures == 0 ? 0 : 1;

@@ -1,11 +1,11 @@
 /*
- * Nulambiro: a decoder of interleaved RLE bitmaps, the compressed rectangles
- * of the Remote Desktop Protocol (MS-RDPBCGR 2.2.9.1.1.3.1.2.4 and 3.1.9),
- * with what is needed between decoded pixels and a screen.
+ * Nulambiro: a codec of interleaved RLE bitmaps, the compressed rectangles of
+ * the Remote Desktop Protocol (MS-RDPBCGR 2.2.9.1.1.3.1.2.4 and 3.1.9): a
+ * decoder, an encoder, and what is needed between decoded pixels and a screen.
  *
  * The library is one archive, libnulambiro.a, for x86-64. It has no state:
  * calls from several threads need no lock, as long as each has its own target
- * and report.
+ * or output, and report.
  */
 #ifndef NULAMBIRO_H
 #define NULAMBIRO_H
@@ -23,7 +23,7 @@ extern "C" {
 /* A stream paints at most this many pixels for each of its bytes. */
 #define NULAMBIRO_MAX_PIXELS_PER_BYTE 26214
 
-/* Places in the report. */
+/* Places in the report of nulambiro_decompress. */
 enum {
   /* Bits per pixel of the decoded picture, 8, 15, 16 or 24; 0 if refused. */
   NULAMBIRO_FORMAT = 0,
@@ -43,8 +43,9 @@ enum {
 /*
  * Refusal numbers, and what NULAMBIRO_FIRST and NULAMBIRO_SECOND hold. The
  * first four are tested in the order of their numbers, before the stream is
- * read: they change no byte of the target, and both counts are 0. The others
- * come from the stream: the pixels painted before them stay.
+ * read: they change no byte of the target, and both counts are 0. 5 to 8 come
+ * from the stream: the pixels painted before them stay. The encoder, which
+ * reads no stream, answers 1 to 4 and 14.
  *
  * Inside an order its length is tested first (6 or 8), then the pixels that it
  * reads (6), then the space for all that it paints (7), and then it paints. A
@@ -59,8 +60,8 @@ enum {
   NULAMBIRO_EMPTY_IMAGE = 2,
   /* A side is above NULAMBIRO_MAX_SIDE. First: width. Second: height. */
   NULAMBIRO_DIMENSIONS_TOO_LARGE = 3,
-  /* The target is shorter than the picture. First: bytes needed. Second:
-   * bytes given (dst_len). */
+  /* The target is shorter than the picture; in nulambiro_compress, the pixel
+   * buffer is. First: bytes needed. Second: bytes given (dst_len, src_len). */
   NULAMBIRO_BUFFER_TOO_SHORT = 4,
   /* A header byte is no order: A0 to BF, F5, FB, FC or FF. */
   NULAMBIRO_BAD_ORDER_CODE = 5,
@@ -72,7 +73,9 @@ enum {
    * would write. */
   NULAMBIRO_INVALID_IMAGE_SIZE = 7,
   /* A run length of two bytes is 0. */
-  NULAMBIRO_UNEXPECTED_ZERO_LENGTH = 8
+  NULAMBIRO_UNEXPECTED_ZERO_LENGTH = 8,
+  /* The stream that is to be written is longer than the output. */
+  NULAMBIRO_OUTPUT_TOO_SHORT = 14
 };
 
 /*
@@ -112,6 +115,81 @@ enum {
 void nulambiro_decompress(const uint8_t *src, size_t src_len, uint8_t *dst,
                           size_t dst_len, size_t width, size_t height,
                           size_t bpp, uint64_t report[NULAMBIRO_REPORT_PLACES]);
+
+/* Places in the report of nulambiro_compress. */
+enum {
+  /* NULAMBIRO_REFUSAL, NULAMBIRO_FIRST and NULAMBIRO_SECOND stand where
+   * nulambiro_decompress has them. */
+  /* The stream's length in bytes; 0 if refused. */
+  NULAMBIRO_COMPRESS_LENGTH = 4
+  /* Places 0, 5, 6 and 7 are always 0. */
+};
+
+/*
+ * Encodes the picture src as a stream, writes the stream to the first bytes of
+ * the output dst of dst_len bytes, and writes what came out to report.
+ *
+ * The picture takes the first width * height * D bytes of src, its rows and
+ * pixels as nulambiro_decompress paints them. Bytes of src past it are not
+ * looked at. Each picture has exactly one stream:
+ * - The picture is one sequence of pixels, row after row. Pixels are equal if
+ *   their stored bytes are: at 15 bpp the top bit counts too.
+ * - From left to right, where at least 3 equal pixels start or, from row 1 on,
+ *   at least 3 pixels that equal those above them, the longer stretch becomes
+ *   a color run or a background run; a background run if they are as long.
+ *   Stretches are measured up to 65535 pixels.
+ * - A background run never directly follows another one. There the equal
+ *   pixels become a color run, whatever stands above; where fewer than 3
+ *   start, one pixel goes to a color image before the next background run.
+ * - All pixels between runs form color images.
+ * - No order has more than 65535 pixels, and each has the shortest form that
+ *   there is for its length.
+ *
+ * nulambiro_decompress gives every picture back from its stream: it is not
+ * refused, width * height pixels are painted, and each byte is the same.
+ *
+ * Refused are, in this order:
+ * - NULAMBIRO_INVALID_BPP, NULAMBIRO_EMPTY_IMAGE and
+ *   NULAMBIRO_DIMENSIONS_TOO_LARGE, as in decoding.
+ * - NULAMBIRO_BUFFER_TOO_SHORT: src is shorter than the picture. First: bytes
+ *   needed. Second: src_len.
+ * - NULAMBIRO_OUTPUT_TOO_SHORT: the stream is longer than dst_len, and this is
+ *   answered exactly then. It never is if dst_len is at least
+ *   nulambiro_compress_bound(width, height, bpp). With a shorter output the
+ *   stream is measured before it is written, which takes a second pass.
+ *
+ * What holds after every call, whatever the pixels and the numbers are:
+ * - If it was not refused, the first report[NULAMBIRO_COMPRESS_LENGTH] bytes
+ *   of the output are the stream. All later bytes of the output are as they
+ *   were before the call, up to dst_len.
+ * - If it was refused, no byte of the output has changed.
+ * - Nothing outside the output and the report is written, nothing outside the
+ *   picture and the output is read, and no memory is allocated.
+ *
+ * What the caller must provide:
+ * - src must be readable for src_len bytes, dst readable and writable for
+ *   dst_len bytes. Either may be a null pointer if its length is 0.
+ * - report must have NULAMBIRO_REPORT_PLACES elements, so it is never null.
+ *   Their old values do not matter; all of them are written.
+ * - src, dst and report must not overlap.
+ * Nothing is required of width, height and bpp: bad values are refused.
+ */
+void nulambiro_compress(const uint8_t *src, size_t src_len, uint8_t *dst,
+                        size_t dst_len, size_t width, size_t height, size_t bpp,
+                        uint64_t report[NULAMBIRO_REPORT_PLACES]);
+
+/*
+ * Returns the length of the longest stream that nulambiro_compress writes for
+ * a picture of this size and depth, or 0 where it refuses these (1 to 3).
+ *
+ * With n = width * height, all quotients rounded down, it is
+ * - at 8 bpp, n + (n + 3) / 35 + 1;
+ * - at 15, 16 and 24 bpp, n * D + 3 * (n / 65535), and for the n % 65535
+ *   pixels that are left 1 more if they are 1 to 31, 2 if they are 32 to 287,
+ *   and 3 if they are more.
+ * No shorter output serves all pictures. Nothing is required of the numbers.
+ */
+size_t nulambiro_compress_bound(size_t width, size_t height, size_t bpp);
 
 /* The bytes of a palette: 256 entries of blue, green and red. */
 #define NULAMBIRO_PALETTE_BYTES 768

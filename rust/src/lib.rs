@@ -1,12 +1,15 @@
-//! Decodes interleaved RLE bitmaps, the compressed rectangles of the Remote Desktop Protocol
-//! (MS-RDPBCGR 2.2.9.1.1.3.1.2.4 and 3.1.9), by the proved library `libnulambiro.a`.
+//! Decodes and encodes interleaved RLE bitmaps, the compressed rectangles of the Remote Desktop
+//! Protocol (MS-RDPBCGR 2.2.9.1.1.3.1.2.4 and 3.1.9), by the proved library `libnulambiro.a`.
 //!
-//! There are two ways to call it:
+//! There are two ways to call the decoder:
 //!
 //! - [`decompress_into`] decodes into a slice that the caller lends, allocates nothing and reports
 //!   how many pixels were painted and how many orders completed, also after a refusal.
 //! - The module [`rle`] has the functions and types of IronRDP's module `ironrdp_graphics::rle`,
 //!   under the same names. Code that uses that module needs only another `use`.
+//!
+//! [`compress`] and, into a slice that the caller lends, [`compress_into`] encode a picture as a
+//! stream that the decoder gives back whole, each byte the same.
 //!
 //! Between decoded pictures and a screen stand [`expand`], [`palette_look`], [`same_picture`] and
 //! [`row_to_show`].
@@ -25,6 +28,21 @@
 //! # Ok::<(), nulambiro::Refusal>(())
 //! ```
 //!
+//! A picture to a stream, and back:
+//!
+//! ```
+//! use nulambiro::{compress, decompress_into};
+//!
+//! let pixels = [7, 7, 7, 7, 7, 7, 7, 9];
+//! let stream = compress(&pixels, 4, 2, 8)?;
+//! assert_eq!(stream, [0x67, 7, 0x81, 9]);
+//!
+//! let mut target = [0x55; 8];
+//! assert_eq!(decompress_into(&stream, &mut target, 4, 2, 8).pixels, 8);
+//! assert_eq!(target, pixels);
+//! # Ok::<(), nulambiro::CompressError>(())
+//! ```
+//!
 //! # Linking
 //!
 //! The build script takes `libnulambiro.a` from the folder that `NULAMBIRO_LIB_DIR` names, or from
@@ -33,14 +51,18 @@
 #![deny(unsafe_code)]
 
 mod colors;
+mod encoder;
 #[allow(unsafe_code)]
 mod ffi;
 #[allow(unsafe_code)]
 mod ffi_colors;
+#[allow(unsafe_code)]
+mod ffi_encoder;
 mod report;
 pub mod rle;
 
 pub use colors::{expand, palette_look, row_to_show, same_picture, Picture};
+pub use encoder::{compress, compress_bound, compress_into, CompressError};
 pub use report::{Refusal, Report};
 pub use rle::RlePixelFormat;
 

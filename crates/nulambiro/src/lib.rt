@@ -6,6 +6,7 @@ ghost use Rattle.rle.specs.Report.{summaryIn};
 ghost use Rattle.nulambiro.specs.Numbers.{numbers, target};
 
 pub mod colors;
+pub mod encoder;
 
 // A report in numbers.
 pub(crate) fn report_numbers(report: rle::Report) -> [u64; 8]
