@@ -1,7 +1,7 @@
 //! What the timed programs share.
 
 #[path = "../rust/tests/common/random.rs"]
-mod random;
+pub mod random;
 
 pub use random::Random;
 use std::env;

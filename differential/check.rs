@@ -2,8 +2,10 @@
 
 use crate::answer::{refused, Answer};
 use crate::case::Case;
+use crate::lent::Lent;
 use crate::library::{self, Report};
 use crate::oracle::{self, OLD};
+use crate::same::{same, same_bytes, Checked};
 
 /// What is looked at beside the answer and the bytes of a target of the picture's length.
 #[derive(Clone, Copy, PartialEq, Eq)]
@@ -14,58 +16,6 @@ pub enum Effort {
     Targets,
     /// Also the orders, by decoding every prefix of the stream.
     Orders,
-}
-
-const GUARD: usize = 32;
-const GUARD_BYTE: u8 = 0xC3;
-
-/// A target between guard bytes.
-#[derive(Default)]
-struct Lent {
-    bytes: Vec<u8>,
-}
-
-impl Lent {
-    fn preset(&mut self, len: usize, old: u8) -> &mut [u8] {
-        self.bytes.clear();
-        self.bytes.resize(GUARD, GUARD_BYTE);
-        self.bytes.resize(GUARD + len, old);
-        self.bytes.resize(GUARD + len + GUARD, GUARD_BYTE);
-        &mut self.bytes[GUARD..GUARD + len]
-    }
-
-    fn target(&self) -> &[u8] {
-        &self.bytes[GUARD..self.bytes.len() - GUARD]
-    }
-
-    fn is_guarded(&self) -> bool {
-        let after = self.bytes.len() - GUARD;
-        let guards = self.bytes[..GUARD].iter().chain(&self.bytes[after..]);
-        guards.copied().all(|byte| byte == GUARD_BYTE)
-    }
-}
-
-/// Says what differs.
-type Checked = Result<(), String>;
-
-fn same<T: PartialEq + std::fmt::Debug>(what: &str, expected: T, found: T) -> Checked {
-    if expected == found {
-        return Ok(());
-    }
-    Err(format!("{what}: expected {expected:?}, found {found:?}"))
-}
-
-fn same_bytes(what: &str, expected: &[u8], found: &[u8]) -> Checked {
-    if expected == found {
-        return Ok(());
-    }
-    match expected.iter().zip(found).position(|(a, b)| a != b) {
-        None => same(what, expected.len(), found.len()),
-        Some(k) => Err(format!(
-            "{what}, byte {k}: expected {:02x}, found {:02x}",
-            expected[k], found[k]
-        )),
-    }
 }
 
 /// Compares the two decoders; the buffers are kept from case to case.

@@ -5,6 +5,9 @@
 #                    it; without it, target/staticlib
 # RLE_RS             the rle.rs to compare with, crates/ironrdp-graphics/src/rle.rs of IronRDP at
 #                    commit 7793f5232a; without it, one that is found beside the repository
+# PEERS              the folder of the programs around outside codecs, which are not part of this
+#                    repository; its README says which packages they need. xrdp and rdesktop are
+#                    looked for in target/peers/pkgs
 root=$(cd "$(dirname "${BASH_SOURCE[0]}")/.." && pwd)
 library=$(realpath -m "${NULAMBIRO_LIB_DIR:-$root/target/staticlib}")
 
@@ -50,6 +53,25 @@ find_oracle() {
       return
     fi
   done
+}
+
+# Sets the folder of the programs around outside codecs; ends the script where there is none.
+require_peers() {
+  [ -n "${PEERS:-}" ] || fail "name the folder of the peers' programs by PEERS"
+  peers=$(realpath -m "$PEERS")
+  [ -x "$peers/run.sh" ] || fail "PEERS: $peers has no run.sh"
+}
+
+# Builds FreeRDP's codec and xrdp's encoder as the library that PEERS_LIB names then.
+build_peers() {
+  require_peers
+  require_command gcc pkg-config
+  mkdir -p "$root/target/peers"
+  export PEERS_LIB=$root/target/peers/peers.so WLOG_LEVEL=OFF
+  export XRDP_LIB=${XRDP_LIB:-$root/target/peers/pkgs/xrdp/usr/lib/x86_64-linux-gnu/xrdp}
+  local flags
+  read -ra flags <<<"$(pkg-config --cflags freerdp2)"
+  gcc -O2 -shared -fPIC "${flags[@]}" "$peers/peers.c" -lfreerdp2 -lwinpr2 -ldl -o "$PEERS_LIB"
 }
 
 # build NAME MAIN CRATE...: builds target/NAME/NAME from its main file over the crates named.

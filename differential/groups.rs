@@ -3,6 +3,7 @@
 use crate::case::{Case, Picture};
 use crate::check::{Checker, Effort};
 use crate::heap;
+use crate::limits::{BPPS, SIDES};
 use crate::random::Random;
 use crate::shrink::Failure;
 use crate::streams::{bytes, damage, filling, forms, orders, picture, DEPTHS};
@@ -36,43 +37,6 @@ const SMALL: [(usize, usize); 12] = [
 
 /// Widths at which every form of orders is tried.
 const WIDTHS: [usize; 8] = [1, 2, 3, 5, 16, 31, 300, 8192];
-
-/// Sides and depths near every limit, and some that are good if their high bits are lost.
-const SIDES: [usize; 13] = [
-    0,
-    1,
-    2,
-    4,
-    8191,
-    8192,
-    8193,
-    1 << 16,
-    (1 << 16) + 4,
-    1 << 32,
-    (1 << 32) + 4,
-    usize::MAX - 1,
-    usize::MAX,
-];
-const BPPS: [usize; 18] = [
-    0,
-    1,
-    7,
-    8,
-    9,
-    14,
-    15,
-    16,
-    17,
-    23,
-    24,
-    25,
-    32,
-    264,
-    65_544,
-    (1 << 32) + 8,
-    usize::MAX - 1,
-    usize::MAX,
-];
 
 pub struct Run {
     mode: Mode,

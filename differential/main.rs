@@ -12,11 +12,14 @@ mod check;
 mod ffi;
 mod groups;
 mod heap;
+mod lent;
 #[allow(unsafe_code)]
 mod library;
+mod limits;
 mod oracle;
 #[path = "../rust/tests/common/random.rs"]
 mod random;
+mod same;
 mod shrink;
 mod streams;
 

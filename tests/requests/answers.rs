@@ -1,6 +1,6 @@
 //! Answers as text.
 
-use nulambiro::Refusal;
+use nulambiro::{CompressError, Refusal};
 use std::fmt::Write;
 
 pub fn hex(bytes: &[u8]) -> String {
@@ -18,24 +18,42 @@ pub struct Answer {
 }
 
 /// The three lines of a refusal, or of none.
-pub fn refusal(refusal: Option<&Refusal>) -> String {
-    let (number, first, second) = refusal.map_or((0, 0, 0), numbers);
+pub fn refusal(refusal: Option<&impl Numbers>) -> String {
+    let (number, first, second) = refusal.map_or((0, 0, 0), Numbers::numbers);
     format!("refusal={number}\nfirst={first}\nsecond={second}\n")
 }
 
 /// A refusal's number, and the two numbers that belong to it.
-fn numbers(refusal: &Refusal) -> (u8, usize, usize) {
-    match *refusal {
-        Refusal::InvalidBpp { bpp } => (1, bpp, 0),
-        Refusal::EmptyImage => (2, 0, 0),
-        Refusal::DimensionsTooLarge { width, height } => (3, width, height),
-        Refusal::BufferTooShort { needed, given } => (4, needed, given),
-        Refusal::BadOrderCode => (5, 0, 0),
-        Refusal::NotEnoughBytes { expected, actual } => (6, expected, actual),
-        Refusal::InvalidImageSize {
-            maximum_additional,
-            required_additional,
-        } => (7, maximum_additional, required_additional),
-        Refusal::UnexpectedZeroLength => (8, 0, 0),
+pub trait Numbers {
+    fn numbers(&self) -> (u8, usize, usize);
+}
+
+impl Numbers for Refusal {
+    fn numbers(&self) -> (u8, usize, usize) {
+        match *self {
+            Self::InvalidBpp { bpp } => (1, bpp, 0),
+            Self::EmptyImage => (2, 0, 0),
+            Self::DimensionsTooLarge { width, height } => (3, width, height),
+            Self::BufferTooShort { needed, given } => (4, needed, given),
+            Self::BadOrderCode => (5, 0, 0),
+            Self::NotEnoughBytes { expected, actual } => (6, expected, actual),
+            Self::InvalidImageSize {
+                maximum_additional,
+                required_additional,
+            } => (7, maximum_additional, required_additional),
+            Self::UnexpectedZeroLength => (8, 0, 0),
+        }
+    }
+}
+
+impl Numbers for CompressError {
+    fn numbers(&self) -> (u8, usize, usize) {
+        match *self {
+            Self::InvalidBpp { bpp } => (1, bpp, 0),
+            Self::EmptyImage => (2, 0, 0),
+            Self::DimensionsTooLarge { width, height } => (3, width, height),
+            Self::PixelsTooShort { needed, given } => (4, needed, given),
+            Self::OutputTooShort => (14, 0, 0),
+        }
     }
 }

@@ -32,16 +32,21 @@ impl<'a> Block<'a> {
         number(self.value(key))
     }
 
-    /// A byte string: pairs of hexadecimal digits, or one pair and `*` and how often it stands
-    /// there, or several of these with `+` between. It is a heap block of exactly its length.
+    /// A byte string, in a heap block of exactly its length.
     pub fn bytes(&self, key: &str) -> Box<[u8]> {
-        let mut bytes = vec![];
-        for piece in self.value(key).split('+') {
-            let (pairs, times) = piece.split_once('*').unwrap_or((piece, "1"));
-            bytes.extend(from_hex(pairs).repeat(number(times)));
-        }
-        bytes.into()
+        bytes(self.value(key)).into()
     }
+}
+
+/// Reads a byte string: pairs of hexadecimal digits, or these and `*` and how often they stand
+/// there, or several such pieces with `+` between.
+pub fn bytes(text: &str) -> Vec<u8> {
+    let mut bytes = vec![];
+    for piece in text.split('+') {
+        let (pairs, times) = piece.split_once('*').unwrap_or((piece, "1"));
+        bytes.extend(from_hex(pairs).repeat(number(times)));
+    }
+    bytes
 }
 
 fn number(word: &str) -> usize {

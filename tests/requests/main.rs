@@ -7,17 +7,19 @@
 mod answers;
 mod block;
 mod colors;
+mod encode;
 mod same;
 
-use answers::Answer;
-use block::Block;
+use answers::{hex, Answer};
+use block::{bytes, Block};
 use std::path::Path;
 use std::process::exit;
 use std::{env, fs};
 
 /// The files of a folder, with what answers a case of each.
-const FILES: [(&str, fn(&Block) -> Answer); 3] = [
+const FILES: [(&str, fn(&Block) -> Answer); 4] = [
     ("02-expand", colors::expand),
+    ("04-encode", encode::encode),
     ("05-look", colors::look),
     ("08-same", same::same),
 ];
@@ -52,7 +54,7 @@ fn compare(folder: &Path, name: &str, answer: fn(&Block) -> Answer) -> usize {
     for (number, (input, due)) in inputs.iter().zip(&dues).enumerate() {
         let given = answer(&Block::new(input));
         in_part += usize::from(given.in_part);
-        if given.text.trim_end() != *due {
+        if given.text.trim_end() != written_out(due) {
             wrong += 1;
             let text = given.text;
             println!("{name}, case {number}\n{input:.400}\ndue:\n{due:.400}\ngiven:\n{text:.400}");
@@ -61,6 +63,16 @@ fn compare(folder: &Path, name: &str, answer: fn(&Block) -> Answer) -> usize {
     let cases = inputs.len();
     println!("{name}: {cases} cases, {in_part} of them compared in part, {wrong} wrong");
     wrong
+}
+
+/// An answer that is due, with `output=` pair by pair: the files may have it in pieces, as inputs
+/// are.
+fn written_out(due: &str) -> String {
+    let line = |line: &str| match line.split_once('=') {
+        Some((key @ "output", pieces)) => format!("{key}={}", hex(&bytes(pieces))),
+        _ => line.to_string(),
+    };
+    due.lines().map(line).collect::<Vec<_>>().join("\n")
 }
 
 fn read(path: &Path) -> String {
