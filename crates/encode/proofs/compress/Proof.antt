@@ -39,7 +39,8 @@ returns-2 c =
     let p = k .before .before in
     let a = p .before .before .before .args in
     let s = matched (k .size2 .given .1) (p .picture-size .ensures) in
-    answers-long (a .src .now) (a .bpp) (a .width) (a .height) (a .dst .now) _ s _ (c .before .before .bytes-per-pixel .ensures) refl refl (c .before .before .before .if1 .left) (sym (c .before .stream-fits .ensures) ∙ not-true _ (c .if2 .taken))
+    answers-long (a .src .now) (a .bpp) (a .width) (a .height) (a .dst .now) _ s _ (c .before .before .bytes-per-pixel .ensures) refl refl
+    (c .before .before .before .if1 .left) (sym (c .before .stream-fits .ensures) ∙ not-true _ (c .if2 .taken))
 
 write-stream-requires : tie.Need-write-stream-requires
 write-stream-requires c κs =
@@ -47,7 +48,8 @@ write-stream-requires c κs =
     let p = k .before .before in
     let a = p .before .before .before .args in
     let s = matched (k .size2 .given .1) (p .picture-size .ensures) in (
-      laid-out (a .src .now) (a .bpp) (a .width) (a .height) (a .dst .now) _ s _ (c .before .before .before .bytes-per-pixel .ensures) refl refl (c .before .before .before .before .if1 .left),
+      laid-out (a .src .now) (a .bpp) (a .width) (a .height) (a .dst .now) _ s _
+          (c .before .before .before .bytes-per-pixel .ensures) refl refl (c .before .before .before .before .if1 .left),
       leb-true _ _ (sym (c .before .before .stream-fits .ensures) ∙ not-false _ (c .before .if2 .left)),
     )
 
@@ -65,7 +67,11 @@ returns-4 c =
     let a = p .before .before .before .args in
     let s = matched (k .size2 .given .1) (p .picture-size .ensures) in
     let w = c .before .before .write-stream .ensures in
-    answers-written (a .src .now) (a .bpp) (a .width) (a .height) (a .dst .now) _ s _ (c .before .before .before .before .before .before .bytes-per-pixel .ensures) refl refl (c .before .before .before .before .before .before .before .if1 .left) (sym (c .before .before .before .before .before .stream-fits .ensures) ∙ not-false _ (c .before .before .before .before .if2 .left)) _ _ (w .0) (w .1)
+    answers-written (a .src .now) (a .bpp) (a .width) (a .height) (a .dst .now) _ s _
+    (c .before .before .before .before .before .before .bytes-per-pixel .ensures) refl refl
+    (c .before .before .before .before .before .before .before .if1 .left)
+    (sym (c .before .before .before .before .before .stream-fits .ensures) ∙ not-false _ (c .before .before .before .before .if2 .left)) _ _
+    (w .0) (w .1)
 
 pub compress-spec : {M : Type 1} → statement M
 compress-spec =

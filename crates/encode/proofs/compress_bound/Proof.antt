@@ -59,4 +59,5 @@ returns-2 c =
 pub compress-bound-spec : {M : Type 1} → statement M
 compress-bound-spec =
     tie.close
-    (tie.spec (λ c κs. search needs) (λ c. search needs) (λ c. search needs) (λ c κs. search needs) mul-overhead overhead-requires add-result returns returns-2)
+    (tie.spec (λ c κs. search needs) (λ c. search needs) (λ c. search needs)
+    (λ c κs. search needs) mul-overhead overhead-requires add-result returns returns-2)

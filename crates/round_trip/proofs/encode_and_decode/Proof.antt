@@ -10,7 +10,12 @@ use Rattle.round_trip.proofs.encode_and_decode.Tie as tie
 slice-reshare-prefix-decompress : tie.Need-slice-reshare-prefix-decompress
 slice-reshare-prefix-decompress c =
     let a = c .before .before .before .before .before .before .before .before .args in
-    omega (arith, c .stream-length .ensures, length-inside (a .src .now) (a .bpp) (a .width) (a .height) _ _ _ (c .before .before .before .compress .ensures))
+    omega (
+      arith,
+      c .stream-length .ensures,
+      length-inside (a .src .now) (a .bpp) (a .width) (a .height) _ _ _
+          (c .before .before .before .compress .ensures),
+    )
 
 slice-aggregate-decompress : tie.Need-slice-aggregate-decompress
 slice-aggregate-decompress c =

@@ -72,5 +72,7 @@ put-head-spec =
     tie.close
     (tie.spec
     (λ c. search needs) (λ c. search needs) (λ c. search needs) slice-write-dst (λ c. search needs) (λ c. search needs) returns
-    (λ c. search needs) slice-write-dst-2 (λ c. search needs) (λ c. search needs) (λ c. search needs) slice-write-dst-3 (λ c. search needs) (λ c. search needs) returns-2
-    (λ c. search needs) slice-write-dst-4 (λ c. search needs) (λ c. search needs) slice-write-dst-5 (λ c. search needs) (λ c. search needs) slice-write-dst-6 (λ c. search needs) (λ c. search needs) returns-3)
+    (λ c. search needs) slice-write-dst-2 (λ c. search needs) (λ c. search needs) (λ c. search needs) slice-write-dst-3 (λ c. search needs)
+    (λ c. search needs) returns-2
+    (λ c. search needs) slice-write-dst-4 (λ c. search needs) (λ c. search needs) slice-write-dst-5 (λ c. search needs)
+    (λ c. search needs) slice-write-dst-6 (λ c. search needs) (λ c. search needs) returns-3)

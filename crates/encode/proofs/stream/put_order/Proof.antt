@@ -15,7 +15,12 @@ put-head-requires c κs =
       p .kind,
       p .one,
       p .few,
-      omega (arith, room, head-shorter (a .f .bytes) (a .f .total) (a .src .now) (p .fits .depth .high) (p .fits .there) (a .k) (a .o .pixels) (p .one) (p .ends) (a .o .kind) (p .kind)),
+      omega (
+        arith,
+        room,
+        head-shorter (a .f .bytes) (a .f .total) (a .src .now) (p .fits .depth .high) (p .fits .there) (a .k)
+            (a .o .pixels) (p .one) (p .ends) (a .o .kind) (p .kind),
+      ),
     )
 
 mul-copy-in : tie.Need-mul-copy-in
@@ -28,13 +33,21 @@ add-result : tie.Need-add-result
 add-result c =
     let a = c .before .before .before .before .before .before .before .before .before .before .before .args in
     let p = c .before .before .before .before .before .before .before .before .before .before .before .pre in
-    omega (arith, p .1, order-written (a .src .now) (a .f) (a .k) (a .o) (p .0) _ _ _ _ _ _ (p .1) (c .before .before .before .before .before .before .before .put-head .ensures) (c .before .before .before .before .pixel-bytes .ensures) (c .before .before .copy-in .ensures) .next)
+    omega (
+      arith,
+      p .1,
+      order-written (a .src .now) (a .f) (a .k) (a .o) (p .0) _ _ _ _ _ _ (p .1)
+          (c .before .before .before .before .before .before .before .put-head .ensures) (c .before .before .before .before .pixel-bytes .ensures)
+          (c .before .before .copy-in .ensures) .next,
+    )
 
 returns : tie.Need-returns
 returns c =
     let a = c .before .before .before .before .before .before .before .before .before .before .before .args in
     let p = c .before .before .before .before .before .before .before .before .before .before .before .pre in
-    order-written (a .src .now) (a .f) (a .k) (a .o) (p .0) _ _ _ _ _ _ (p .1) (c .before .before .before .before .before .before .before .put-head .ensures) (c .before .before .before .before .pixel-bytes .ensures) (c .before .before .copy-in .ensures)
+    order-written (a .src .now) (a .f) (a .k) (a .o) (p .0) _ _ _ _ _ _ (p .1)
+    (c .before .before .before .before .before .before .before .put-head .ensures) (c .before .before .before .before .pixel-bytes .ensures)
+    (c .before .before .copy-in .ensures)
 
 pub put-order-spec : {M : Type 1} → statement M
 put-order-spec =

@@ -26,7 +26,8 @@ returns : tie.Need-returns
 returns c =
     let a = c .before .before .before .before .args in
     let p = c .before .before .before .before .pre in
-    sym (le-leb (length (streamIn (a .f) (a .src .now))) (a .room) (omega (arith, stream-few (a .src .now) (a .f) p, c .before .overhead .ensures, c .if1 .taken)))
+    sym (le-leb (length (streamIn (a .f) (a .src .now))) (a .room)
+    (omega (arith, stream-few (a .src .now) (a .f) p, c .before .overhead .ensures, c .if1 .taken)))
 
 returns-2 : tie.Need-returns-2
 returns-2 c = rw (c .stream-len .ensures)

@@ -38,25 +38,41 @@ add-n : tie.Need-add-n Inv-loop μ-loop
 add-n c =
     let a = c .before .before .before .before .before .before .before .args in
     let fits = c .before .before .before .before .before .before .before .pre in
-    omega (arith, counted-more (a .src .now) (a .f) fits _ _ (c .before .before .order-at .result) (c .before .before .order-at .ensures) (omega arith) _ _ _ (c .before .head-len .ensures) (c .pixel-bytes .ensures) (c .before .before .before .before .before .loop .inv .1), stream-small (a .src .now) (a .f) fits)
+    omega (
+      arith,
+      counted-more (a .src .now) (a .f) fits _ _ (c .before .before .order-at .result) (c .before .before .order-at .ensures)
+          (omega arith) _ _ _ (c .before .head-len .ensures) (c .pixel-bytes .ensures) (c .before .before .before .before .before .loop .inv .1),
+      stream-small (a .src .now) (a .f) fits,
+    )
 
 add-n-2 : tie.Need-add-n-2 Inv-loop μ-loop
 add-n-2 c =
     let a = c .before .before .before .before .before .before .before .args in
     let fits = c .before .before .before .before .before .before .before .pre in
-    omega (arith, counted-more (a .src .now) (a .f) fits _ _ (c .before .before .order-at .result) (c .before .before .order-at .ensures) (omega arith) _ _ _ (c .before .head-len .ensures) (c .pixel-bytes .ensures) (c .before .before .before .before .before .loop .inv .1), stream-small (a .src .now) (a .f) fits)
+    omega (
+      arith,
+      counted-more (a .src .now) (a .f) fits _ _ (c .before .before .order-at .result) (c .before .before .order-at .ensures)
+          (omega arith) _ _ _ (c .before .head-len .ensures) (c .pixel-bytes .ensures) (c .before .before .before .before .before .loop .inv .1),
+      stream-small (a .src .now) (a .f) fits,
+    )
 
 add-k : tie.Need-add-k Inv-loop μ-loop
 add-k c =
     let a = c .before .before .before .before .before .before .before .before .args in
     let fits = c .before .before .before .before .before .before .before .before .pre in
-    omega (arith, fits .few, placed (a .src .now) (a .f) _ _ (c .before .before .before .order-at .result) fits (c .before .before .before .order-at .ensures) (omega arith) .ends)
+    omega (
+      arith,
+      fits .few,
+      placed (a .src .now) (a .f) _ _ (c .before .before .before .order-at .result) fits
+          (c .before .before .before .order-at .ensures) (omega arith) .ends,
+    )
 
 loop-less : tie.Need-loop-less Inv-loop μ-loop
 loop-less c =
     let a = c .before .before .before .before .before .before .before .before .before .args in
     let fits = c .before .before .before .before .before .before .before .before .before .pre in
-    let q = placed (a .src .now) (a .f) _ _ (c .before .before .before .before .order-at .result) fits (c .before .before .before .before .order-at .ensures) (omega arith) in
+    let q = placed (a .src .now) (a .f) _ _ (c .before .before .before .before .order-at .result) fits
+    (c .before .before .before .before .order-at .ensures) (omega arith) in
     omega (arith, q .one, q .ends)
 
 loop-again : tie.Need-loop-again Inv-loop μ-loop
@@ -64,17 +80,27 @@ loop-again c =
     let a = c .before .before .before .before .before .before .before .before .before .args in
     let fits = c .before .before .before .before .before .before .before .before .before .pre in
     let o = c .before .before .before .before .order-at in
-    let q = placed (a .src .now) (a .f) _ _ (o .result) fits (o .ensures) (omega arith) in
-    (q .ends, counted-more (a .src .now) (a .f) fits _ _ (o .result) (o .ensures) (omega arith) _ _ _ (c .before .before .before .head-len .ensures) (c .before .before .pixel-bytes .ensures) (c .before .before .before .before .before .before .before .loop .inv .1))
+    let q = placed (a .src .now) (a .f) _ _ (o .result) fits (o .ensures) (omega arith) in (
+      q .ends,
+      counted-more (a .src .now) (a .f) fits _ _ (o .result) (o .ensures) (omega arith) _ _ _
+          (c .before .before .before .head-len .ensures) (c .before .before .pixel-bytes .ensures)
+          (c .before .before .before .before .before .before .before .loop .inv .1),
+    )
 
 returns : tie.Need-returns Inv-loop μ-loop
 returns c =
     let a = c .before .before .before .before .args in
     let fits = c .before .before .before .before .pre in
     let l = c .before .before .loop in
-    omega (arith, l .inv .1, ap length (rest-end (a .f .width) (pixelsIn (a .f) (a .src .now)) (a .f .bytes) (l .k) (l .after) (rw length-pixelsOf (omega arith))))
+    omega (
+      arith,
+      l .inv .1,
+      ap length (rest-end (a .f .width) (pixelsIn (a .f) (a .src .now)) (a .f .bytes) (l .k) (l .after)
+          (rw length-pixelsOf (omega arith))),
+    )
 
 pub stream-len-spec : {M : Type 1} → statement M
 stream-len-spec =
     tie.close
-    (tie.spec Inv-loop μ-loop loop-holds order-at-requires (λ c κs. search needs) pixel-bytes-requires add-n add-n-2 add-k loop-less loop-again returns)
+    (tie.spec Inv-loop μ-loop loop-holds order-at-requires
+    (λ c κs. search needs) pixel-bytes-requires add-n add-n-2 add-k loop-less loop-again returns)

@@ -58,7 +58,8 @@ loop-again c =
     let l = c .before .before .before .before .before .before .before .before .before .loop in
     let o = c .before .before .before .before .before .before .order-at in (
       placed (a .src .now) (a .f) (l .k) (l .after) (o .result) (p .0) (o .ensures) (omega arith) .ends,
-      order-begun (a .src .now) (a .f) (l .k) (l .after) (o .result) (o .ensures) (omega arith) (a .dst .now) (l .dst) (l .at) (p .1) (l .inv .1) _ _ (c .before .before .before .before .put-order .ensures),
+      order-begun (a .src .now) (a .f) (l .k) (l .after) (o .result) (o .ensures) (omega arith) (a .dst .now) (l .dst) (l .at) (p .1)
+          (l .inv .1) _ _ (c .before .before .before .before .put-order .ensures),
     )
 
 same-length : tie.Need-same-length Inv-loop μ-loop

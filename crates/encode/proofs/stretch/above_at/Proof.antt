@@ -37,7 +37,8 @@ same-back-requires : tie.Need-same-back-requires
 same-back-requires c κs =
     let a = c .before .before .before .before .before .before .args in
     let l = c .before .before .before .before .before .before .pre in
-    inside (a .src .now) (a .f) (l .fits) (a .f .width) (a .k) (c .before .most .result) (c .before .before .if2 .left) (omega (arith, l .inside, c .before .most .ensures))
+    inside (a .src .now) (a .f) (l .fits) (a .f .width) (a .k) (c .before .most .result) (c .before .before .if2 .left)
+    (omega (arith, l .inside, c .before .most .ensures))
 
 returns-3 : tie.Need-returns-3
 returns-3 c =
@@ -50,4 +51,5 @@ returns-3 c =
 pub above-at-spec : {M : Type 1} → statement M
 above-at-spec =
     tie.close
-    (tie.spec returns returns-2 (λ c κs. search needs) mul-same-back mul-same-back-2 mul-same-back-3 same-back-requires (λ c κs. search needs) returns-3)
+    (tie.spec returns returns-2 (λ c κs. search needs) mul-same-back mul-same-back-2 mul-same-back-3 same-back-requires
+    (λ c κs. search needs) returns-3)

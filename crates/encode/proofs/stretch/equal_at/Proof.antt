@@ -44,4 +44,5 @@ returns c =
 pub equal-at-spec : {M : Type 1} → statement M
 equal-at-spec =
     tie.close
-    (tie.spec (λ c κs. search needs) (λ c. search needs) mul-same-back (λ c. search needs) mul-same-back-2 same-back-requires (λ c κs. search needs) add-result returns)
+    (tie.spec (λ c κs. search needs) (λ c. search needs) mul-same-back (λ c. search needs) mul-same-back-2 same-back-requires
+    (λ c κs. search needs) add-result returns)

@@ -33,7 +33,8 @@ returns c =
     let a = c .before .before .before .before .before .before .args in
     let l = c .before .before .before .before .before .before .pre in
     let x = c .before .before .before .loop in
-    image-is (a .src .now) (a .f) (a .k) l (x .n) (x .inv .0) (omega (arith, x .inv .1 .0, c .before .before .before .before .most .ensures)) (x .inv .1 .1)
+    image-is (a .src .now) (a .f) (a .k) l (x .n) (x .inv .0)
+    (omega (arith, x .inv .1 .0, c .before .before .before .before .most .ensures)) (x .inv .1 .1)
     (λ h. sym (c .before .no-run-at .ensures) ∙ not-true _ (c .if1 .taken))
 
 loop-again : tie.Need-loop-again Inv-loop μ-loop
@@ -58,4 +59,5 @@ returns-2 c =
 pub image-at-spec : {M : Type 1} → statement M
 image-at-spec =
     tie.close
-    (tie.spec Inv-loop μ-loop (λ c κs. search needs) loop-holds (λ c. search needs) no-run-at-requires returns (λ c. search needs) (λ c. omega arith) loop-again returns-2)
+    (tie.spec Inv-loop μ-loop (λ c κs. search needs) loop-holds (λ c. search needs) no-run-at-requires returns (λ c. search needs)
+    (λ c. omega arith) loop-again returns-2)

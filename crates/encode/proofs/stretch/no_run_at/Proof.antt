@@ -36,7 +36,8 @@ returns-3 : tie.Need-returns-3
 returns-3 c =
     let a = c .before .before .before .before .before .before .before .args in
     let l = c .before .before .before .before .before .before .before .pre in
-    none-first (a .src .now) (a .f) (a .k) l (c .before .before .before .before .if1 .left) (sym (c .before .before .before .same-few .ensures) ∙ c .before .before .if2 .left) (c .if3 .taken)
+    none-first (a .src .now) (a .f) (a .k) l (c .before .before .before .before .if1 .left)
+    (sym (c .before .before .before .same-few .ensures) ∙ c .before .before .if2 .left) (c .if3 .taken)
 
 mul-same-few-3 : tie.Need-mul-same-few-3
 mul-same-few-3 c =
@@ -54,13 +55,16 @@ same-few-requires-2 : tie.Need-same-few-requires-2
 same-few-requires-2 c κs =
     let a = c .before .before .before .before .before .before .before .before .args in
     let l = c .before .before .before .before .before .before .before .before .pre in
-    inside (a .src .now) (a .f) (l .fits) (a .f .width) (a .k) 3 (c .before .if3 .left) (omega (arith, c .before .before .before .before .before .if1 .left))
+    inside (a .src .now) (a .f) (l .fits) (a .f .width) (a .k) 3 (c .before .if3 .left)
+    (omega (arith, c .before .before .before .before .before .if1 .left))
 
 returns-4 : tie.Need-returns-4
 returns-4 c =
     let a = c .before .before .before .before .before .before .before .before .before .args in
     let l = c .before .before .before .before .before .before .before .before .before .pre in
-    none-above (a .src .now) (a .f) (a .k) l (c .before .before .before .before .before .before .if1 .left) (sym (c .before .before .before .before .before .same-few .ensures) ∙ c .before .before .before .before .if2 .left) (c .before .before .if3 .left) (c .same-few2 .result) (sym (c .same-few2 .ensures))
+    none-above (a .src .now) (a .f) (a .k) l (c .before .before .before .before .before .before .if1 .left)
+    (sym (c .before .before .before .before .before .same-few .ensures) ∙ c .before .before .before .before .if2 .left)
+    (c .before .before .if3 .left) (c .same-few2 .result) (sym (c .same-few2 .ensures))
 
 pub no-run-at-spec : {M : Type 1} → statement M
 no-run-at-spec =
