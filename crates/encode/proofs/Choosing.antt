@@ -1,14 +1,15 @@
 -- The order that the code chooses is the rule's. Assumes nothing.
-use mathlib.Core.Path.{_≡_, refl, sym, _∙_}
+use mathlib.Core.Path.{_≡_, sym, _∙_}
 use mathlib.Core.List.{List}
-use mathlib.Core.Bool.{Bool, true, false}
+use mathlib.Core.Bool.{Bool}
 use Prim.Native.Nat.{ℕ, _≤_, _<_}
 use lib.Dec.{leb}
 use lib.ListN.{length}
 use borrow.Author.Tests.{le-leb, lt-leb}
 use Rattle.base.specs.Picks.{pick}
+use Rattle.base.proofs.Tests.{pick-same}
 use Rattle.picture.specs.Pixels.{Pixel}
-use Rattle.encoding.specs.Encode.{Start, none, equalAt, aboveAt, longer, startAt, imageAt, pixelsIn, orderAt}
+use Rattle.encoding.specs.Encode.{none, equalAt, aboveAt, longer, startAt, imageAt, pixelsIn, orderAt}
 use Rattle.encoding.specs.Encode as rule
 use Rattle.encoding.proofs.HeadLengths.{background-kind, color-kind, image-kind}
 use Rattle.encoding.proofs.Choices.{image-length}
@@ -17,11 +18,7 @@ use Rattle.encode.specs.Orders.{orderOf, OrderAt}
 -- no run: both stretches are short
 longer-none : (a e : ℕ) → a < 3 → e < 3 → longer a e ≡ none
 unfolding longer
-longer-none a e h g = rw (lt-leb 3 a h, lt-leb 3 e g) (either (leb e a))
-  where
-    either : (t : Bool) → _≡_ {A = Start} (pick t none none) none
-    either true = refl
-    either false = refl
+longer-none a e h g = rw (lt-leb 3 a h, lt-leb 3 e g) (pick-same (leb e a) none)
 
 -- the stretches a and e that the code found
 module _ (w : ℕ) (ps : List Pixel) (k : ℕ) (after : Bool) (a e : ℕ) (above : a ≡ pick after 0 (aboveAt w ps k)) (equal : e ≡ equalAt ps k) where

@@ -1,7 +1,7 @@
 -- An order's bytes: header and run length, and then pixels as they stand in the buffer. Assumes nothing.
 use mathlib.Core.Path.{_≡_, refl, ap, sym, _∙_}
 use mathlib.Core.List.{List, [], _∷_, _++_, append-nil}
-use Prim.Native.Nat.{ℕ, zero, suc, _+_, _-_, _*_, _≤_, _<_}
+use Prim.Native.Nat.{ℕ, _+_, _-_, _*_, _≤_, _<_}
 use native.Mathlib.Nat.{mul-le-mul-right, one-mul, zero-mul}
 use native.Mathlib.Omega.{arith}
 use lib.Dec.{eqb}
@@ -13,26 +13,8 @@ use Rattle.definition.specs.Codes.{kindRow}
 use Rattle.encoding.specs.Heads.{headBytes, EncodedKind}
 use Rattle.encoding.specs.Bound.{headSize}
 use Rattle.encoding.specs.Encode.{isBgRun, orderBytes}
-use Rattle.encoding.proofs.HeadLengths.{HeadOf, no-head, one-byte, two-bytes, three-bytes, head-of, head-length}
+use Rattle.encoding.proofs.HeadLengths.{by-kind, head-length}
 use Rattle.encode.specs.Orders.{orderOf, pixelsHeld}
-
-pub head-few : (n : ℕ) → headSize n ≤ 3
-head-few n = go (head-of n)
-  where
-    go : {x : ℕ} → HeadOf n x → x ≤ 3
-    go (no-head e) = omega arith
-    go (one-byte a b) = omega arith
-    go (two-bytes a b) = omega arith
-    go (three-bytes a) = omega arith
-
--- a law of each kind that is written
-by-kind : (P : ℕ → Type 0) → P 0 → P 3 → P 4 → (c : ℕ) → EncodedKind c → P c
-by-kind P a b d zero o = a
-by-kind P a b d (suc zero) o = absurd (o .not-1 refl)
-by-kind P a b d (suc (suc zero)) o = absurd (o .not-2 refl)
-by-kind P a b d (suc (suc (suc zero))) o = b
-by-kind P a b d (suc (suc (suc (suc zero)))) o = d
-by-kind P a b d (suc (suc (suc (suc (suc c))))) o = absurd (omega (arith, o .few))
 
 pub background-is : (ps : List Pixel) (k n c : ℕ) → EncodedKind c → eqb c 0 ≡ isBgRun (orderOf ps k c n)
 unfolding orderOf isBgRun

@@ -8,22 +8,22 @@ use lib.Dec.{leb, eqb}
 use lib.ListN.{length}
 use borrow.Author.Tests.{le-leb, lt-leb, leb-true, leb-false}
 use Rattle.base.specs.Picks.{pick}
-use Rattle.base.proofs.Tests.{same-test}
+use Rattle.base.proofs.Tests.{pick-same, same-test}
 use Rattle.picture.specs.Pixels.{Pixel}
 use Rattle.picture.proofs.Pixels.{length-pixelsOf}
 use Rattle.encoding.specs.Encode.{stretch, pixel, samePixel, equalAt, aboveAt, Start, background, color, none, longer, startAt, isNone, imageAt}
-use Rattle.encoding.proofs.Stretches.{stretch-le, stretch-is}
+use Rattle.encoding.proofs.Stretches.{stretch-is}
 use Rattle.encoding.proofs.SamePixels.{equal-chain}
-use Rattle.encoding.proofs.Choices.{Chosen, as-background, as-color, as-none, start-chosen}
+use Rattle.encoding.proofs.Choices.{Chosen, as-background, as-color, as-none, equal-le, start-chosen}
 use Rattle.encode.specs.declared.stretch.Layout.{Layout}
 use Rattle.encode.specs.Layouts.{pixelsIn, LaidOut}
 use Rattle.encode.specs.Bytes.{sameBack}
 use Rattle.encode.proofs.PixelStretches.{pixel-stretch, stretch-of}
 
--- no run starts where both stretches are short
-longer-none : (a e : ℕ) → isNone (longer a e) ≡ pick (leb 3 a) false (pick (leb 3 e) false true)
+-- a run starts where either stretch has three pixels
+none-by-tests : (a e : ℕ) → isNone (longer a e) ≡ pick (leb 3 a) false (pick (leb 3 e) false true)
 unfolding isNone longer
-longer-none a e = go (leb e a) (leb 3 a) (leb 3 e) refl refl refl
+none-by-tests a e = go (leb e a) (leb 3 a) (leb 3 e) refl refl refl
   where
     go : (x y z : Bool) → leb e a ≡ x → leb 3 a ≡ y → leb 3 e ≡ z
         → isNone (pick x (pick y (background a) none) (pick z (color e) none)) ≡ pick y false (pick z false true)
@@ -79,8 +79,7 @@ module _ (s : List ℕ) (f : Layout) (k : ℕ) (laid : LaidOut s f k) where
       rw (z, y, x) (omega (arith, equal-back, rw (row, place) at e))
 
   pub equal-few : equalAt ps k ≤ 65535
-  unfolding equalAt
-  equal-few = omega (arith, stretch-le (λ i. samePixel (pixel ps i) (pixel ps k)) k (min 65535 (length ps - k)))
+  equal-few = omega (arith, equal-le ps k)
 
   above-back : f .width ≤ k → aboveAt (f .width) ps k ≡ stretch (λ i. samePixel (pixel ps i) (pixel ps (i - f .width))) k room
   unfolding aboveAt
@@ -116,14 +115,10 @@ module _ (s : List ℕ) (f : Layout) (k : ℕ) (laid : LaidOut s f k) where
     -- the tests of the code: three equal pixels, row 0, three pixels equal to those above
     start-none : isNone (startAt (f .width) ps k false) ≡ pick (leb 3 (aboveAt (f .width) ps k)) false (pick (leb 3 (equalAt ps k)) false true)
     unfolding startAt
-    start-none = longer-none (aboveAt (f .width) ps k) (equalAt ps k)
+    start-none = none-by-tests (aboveAt (f .width) ps k) (equalAt ps k)
 
     pub none-equal : eqb (stretch (sameBack s D) ((k + 1) * D) (2 * D)) (2 * D) ≡ true → false ≡ isNone (startAt (f .width) ps k false)
-    none-equal e = sym (start-none ∙ rw (three-equal, e) (either (leb 3 (aboveAt (f .width) ps k))))
-      where
-        either : (t : Bool) → pick t false false ≡ false
-        either true = refl
-        either false = refl
+    none-equal e = sym (start-none ∙ rw (three-equal, e) (pick-same (leb 3 (aboveAt (f .width) ps k)) false))
 
     module _ (unequal : eqb (stretch (sameBack s D) ((k + 1) * D) (2 * D)) (2 * D) ≡ false) where
       pub none-first : k < f .width → true ≡ isNone (startAt (f .width) ps k false)

@@ -14,7 +14,7 @@ use Rattle.picture.specs.Pixels.{Pixel}
 use Rattle.picture.proofs.Pixels.{length-pixelsOf}
 use Rattle.definition.specs.Codes.{kindRow}
 use Rattle.encoding.specs.Heads.{headBytes}
-use Rattle.encoding.proofs.HeadLengths.{head-length}
+use Rattle.encoding.proofs.HeadLengths.{head-length, head-most}
 use Rattle.encoding.specs.Encode.{isBgRun, orderAt, orderBytes, encode}
 use Rattle.encoding.specs.Bound.{headSize, overhead}
 use Rattle.encoding.proofs.Bound.{stream-bound}
@@ -24,14 +24,14 @@ use Rattle.encode.specs.declared.stretch.Layout.{Layout}
 use Rattle.encode.specs.Layouts.{Fits, pixelsIn, streamIn}
 use Rattle.encode.specs.Orders.{orderOf, pixelsHeld, OrderAt, Placed}
 use Rattle.encode.specs.Writing.{Writes}
-use Rattle.encode.proofs.OrderBytes.{head-few, background-is, order-bytes, order-length, held-inside}
+use Rattle.encode.proofs.OrderBytes.{background-is, order-bytes, order-length, held-inside}
 use Rattle.encode.proofs.Written.{copied-where, length-written, then-written}
 
 -- ---- one order more
 
 pub overhead-few : (D n : ℕ) → overhead D n ≤ n + 4
 unfolding overhead
-overhead-few D n = by-test (λ (x : ℕ). x ≤ n + 4) (eqb D 1) (λ e. omega arith) (λ e. omega (arith, head-few (n % 65535)))
+overhead-few D n = by-test (λ (x : ℕ). x ≤ n + 4) (eqb D 1) (λ e. omega arith) (λ e. omega (arith, head-most (n % 65535)))
 
 module _ (w : ℕ) (ps : List Pixel) (k : ℕ) (after : Bool) (o : Order) (is : OrderAt w ps k after o) (inside : k < length ps) where
   -- the rest behind the code's order

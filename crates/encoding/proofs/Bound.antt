@@ -18,7 +18,7 @@ use Rattle.definition.specs.Codes.{kindRow}
 use Rattle.encoding.specs.Heads.{headBytes}
 use Rattle.encoding.specs.Encode.{pixel, most, Start, background, color, none, startAt, isNone, imageAt, Order, pixelsIn, isBgRun, orderOf, orderAt, ordersFrom, ordersOf, orderBytes, streamOf, encode}
 use Rattle.encoding.specs.Bound.{headSize, overhead, boundOf, bound}
-use Rattle.encoding.proofs.HeadLengths.{background-kind, color-kind, image-kind, by-head, head-length}
+use Rattle.encoding.proofs.HeadLengths.{background-kind, color-kind, image-kind, by-head, head-length, head-most}
 use Rattle.encoding.proofs.Choices.{Chosen, as-background, as-color, as-none, start-chosen, image-one, image-le, image-stops, image-length}
 
 -- ---- the numbers
@@ -32,9 +32,6 @@ record Covers (D : ℕ) (more less : ℕ → ℕ) : Type 0 where
   -- the longest image, and any m pixels
   full : (m : ℕ) → 3 + more m ≤ more (65535 + m)
   weaker : (m : ℕ) → less m ≤ more m
-
-head-most : (n : ℕ) → headSize n ≤ 3
-head-most n = by-head (λ x. x ≤ 3) n (λ e. omega arith) (λ a b. omega arith) (λ a b. omega arith) (λ a. omega arith)
 
 -- with the one byte of its color, a run is still shorter than its pixels
 head-run : (n : ℕ) → 3 ≤ n → headSize n + 2 ≤ n

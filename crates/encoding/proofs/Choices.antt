@@ -29,7 +29,7 @@ by-longer Q a e f g h =
     (λ _. by-test Q (leb 3 a) (λ t. f (leb-true 3 a t)) (λ _. h))
     (λ _. by-test Q (leb 3 e) (λ t. g (leb-true 3 e t)) (λ _. h))
 
-equal-le : (ps : List Pixel) (k : ℕ) → equalAt ps k ≤ most ps k
+pub equal-le : (ps : List Pixel) (k : ℕ) → equalAt ps k ≤ most ps k
 unfolding equalAt
 equal-le ps k = stretch-le (λ i. samePixel (pixel ps i) (pixel ps k)) k (most ps k)
 

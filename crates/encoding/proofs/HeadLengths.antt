@@ -21,16 +21,23 @@ color-kind = record { few = lit≤ tt; not-1 = λ e. omega arith; not-2 = λ e. 
 pub image-kind : EncodedKind 4
 image-kind = record { few = lit≤ tt; not-1 = λ e. omega arith; not-2 = λ e. omega arith }
 
+-- what holds of each of the three holds of a kind that is written
+pub by-kind : (Q : ℕ → Type 0) → Q 0 → Q 3 → Q 4 → (c : ℕ) → EncodedKind c → Q c
+by-kind Q x y z zero o = x
+by-kind Q x y z (suc zero) o = absurd (o .not-1 refl)
+by-kind Q x y z (suc (suc zero)) o = absurd (o .not-2 refl)
+by-kind Q x y z (suc (suc (suc zero))) o = y
+by-kind Q x y z (suc (suc (suc (suc zero)))) o = z
+by-kind Q x y z (suc (suc (suc (suc (suc c))))) o = absurd (omega (arith, o .few))
+
 -- the three have rows alike
 alike : (c n : ℕ) → EncodedKind c
     → headBytes (kindRow c) n ≡ writtenAs (c * 32) (written 1 32 (0xF0 + c)) n (shortestIn 32 (written 1 32 (0xF0 + c)) n)
 unfolding headBytes kindRow rows row
-alike zero n o = refl
-alike (suc zero) n o = absurd (o .not-1 refl)
-alike (suc (suc zero)) n o = absurd (o .not-2 refl)
-alike (suc (suc (suc zero))) n o = refl
-alike (suc (suc (suc (suc zero)))) n o = refl
-alike (suc (suc (suc (suc (suc c))))) n o = absurd (omega (arith, o .few))
+alike c n o =
+    by-kind
+    (λ c. headBytes (kindRow c) n ≡ writtenAs (c * 32) (written 1 32 (0xF0 + c)) n (shortestIn 32 (written 1 32 (0xF0 + c)) n))
+    refl refl refl c o
 
 module _ (c n : ℕ) (o : EncodedKind c) where
   pub head-short : n ≤ 31 → headBytes (kindRow c) n ≡ (c * 32 + n) ∷ []
@@ -85,3 +92,6 @@ pub head-length : (c n : ℕ) → EncodedKind c → 1 ≤ n → length (headByte
 head-length c n o one =
     by-head (λ x. length (headBytes (kindRow c) n) ≡ x) n (λ e. absurd (omega arith)) (λ a b. ap length (head-short c n o b))
     (λ a b. ap length (head-one c n o a b)) (λ a. ap length (head-two c n o a))
+
+pub head-most : (n : ℕ) → headSize n ≤ 3
+head-most n = by-head (λ x. x ≤ 3) n (λ e. omega arith) (λ a b. omega arith) (λ a b. omega arith) (λ a. omega arith)

@@ -4,7 +4,7 @@ use Prim.Native.Nat.{_%_}
 use native.Mathlib.Omega.{arith}
 use borrow.Author.Tests.{eq-eqb, ne-eqb}
 use Rattle.encoding.specs.Bound as bound
-use Rattle.encode.proofs.OrderBytes.{head-few}
+use Rattle.encoding.proofs.HeadLengths.{head-most}
 use Rattle.encode.proofs.head.overhead.Statement.{statement}
 use Rattle.encode.proofs.head.overhead.Tie as tie
 
@@ -13,7 +13,7 @@ unfolding bound.overhead
 returns c = rw (eq-eqb _ _ (c .if1 .taken))
 
 add-result-3 : tie.Need-add-result-3
-add-result-3 c = omega (arith, c .head-len .ensures, head-few (c .before .before .args .n % 65535))
+add-result-3 c = omega (arith, c .head-len .ensures, head-most (c .before .before .args .n % 65535))
 
 returns-2 : tie.Need-returns-2
 unfolding bound.overhead
