@@ -62,11 +62,11 @@ module _ (D n a R k : ℕ) (low : 1 ≤ D) (most : n ≤ 21845 * k) (few : k ≤
 abbrev pub Bytes : List ℕ → Type 0
 Bytes l = (i : ℕ) → getD l i 0 < 256
 
-bytes-drop : (k : ℕ) (l : List ℕ) → Bytes l → Bytes (drop k l)
+pub bytes-drop : (k : ℕ) (l : List ℕ) → Bytes l → Bytes (drop k l)
 bytes-drop k l h i = rw getD-drop (h (k + i))
 
 -- a run length behind the first k bytes of l
-data Read (l : List ℕ) : RunLength → Type 0 where
+pub data Read (l : List ℕ) : RunLength → Type 0 where
   read : (k n : ℕ) → k ≤ length l → k ≤ 3 → 1 ≤ n → n ≤ 21845 * k → Read l (runLength n (drop k l))
   unread : {r : Refusal} (k : ℕ) → k ≤ length l → Read l (refused r (drop k l))
 
@@ -93,7 +93,7 @@ module _ (h : ℕ) (rest : List ℕ) (octets : Bytes (h ∷ rest)) where
       let nonzero : getD rest 0 0 + getD rest 1 0 * 256 ≡ 0 → ⊥ = eqb-false _ 0 e in
       read 3 (getD rest 0 0 + getD rest 1 0 * 256) (omega arith) (omega arith) (omega arith) (omega (arith, octets 1, octets 2))))
 
-length-read : (l : List ℕ) → 1 ≤ length l → Bytes l → Read l (lengthOf (rowOf (getD l 0 0)) (getD l 0 0) (drop 1 l))
+pub length-read : (l : List ℕ) → 1 ≤ length l → Bytes l → Read l (lengthOf (rowOf (getD l 0 0)) (getD l 0 0) (drop 1 l))
 unfolding lengthOf
 length-read [] some octets = absurd (omega arith)
 length-read (h ∷ rest) some octets =

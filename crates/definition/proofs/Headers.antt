@@ -10,7 +10,7 @@ use borrow.Author.Tests.{lt-ltb, leb-true, ltb-true, eqb-true}
 use Rattle.base.specs.Picks.{pick}
 use Rattle.base.proofs.Tests.{by-test, both-true}
 use Rattle.definition.specs.Orders.{Row, rows, noRow, hasHeader, rowIn, rowOf, Place, nowhere, inHeader, inByte, inTwoBytes, placeOf, ownLength, megaOf, runLength, megaLength, megaMegaLength, lengthAt, lengthOf}
-use Rattle.definition.specs.Codes.{kindRow, numberIn, kindNumber, ownAt, lengthNumber, megaNumber, lengthTest, headerTest, headers-tested}
+use Rattle.definition.specs.Codes.{kindRow, numberIn, kindNumber, ownAt, lengthNumber, megaNumber, lengthTest, headerTest, headers-tested, placeBy, places-told}
 use Rattle.definition.proofs.Table.{same-tables}
 
 -- ---- headers
@@ -93,3 +93,7 @@ module _ (h : ℕ) (byte : h < 256) (rest : List ℕ) where
       × (lengthNumber h ≤ 248)
   unfolding lengthNumber lengthOf
   by-header = by-place (placeOf (rowOf h) h) (ownLength h (rowOf h .size) (rowOf h .lengths)) (megaOf (rowOf h .lengths)) (tested h byte)
+
+-- the place that the code tells
+pub place-is : (h : ℕ) → h < 256 → placeOf (rowOf h) h ≡ placeBy (kindNumber h) (lengthNumber h) h
+place-is h byte = same-tables nowhere (λ k. placeOf (rowOf k) k) (λ k. placeBy (kindNumber k) (lengthNumber k) k) 256 places-told h byte

@@ -5,3 +5,4 @@ pub mod Masks
 pub mod Planned
 pub mod Bounds
 pub mod Runs
+pub mod Records

@@ -30,16 +30,20 @@ run-step : (f : Frame) (n : ℕ) (s : State) → 0 < length (s .left) → run f 
 unfolding run
 run-step f n s h = not-end (s .left) _ _ h
 
-pub continues-start : (f : Frame) (src : List ℕ) → Continues f src (start f src)
-unfolding decode start
-continues-start f src = record { fuel = length src; enough = le-refl (length src); goes = refl }
+-- all orders from a state on
+pub continues-first : (f : Frame) (s : State) → Continues f (run f (length (s .left)) s) s
+continues-first f s = record { fuel = length (s .left); enough = le-refl (length (s .left)); goes = refl }
 
-module _ {f : Frame} {src : List ℕ} {s : State} (on : Continues f src s) where
-  pub continues-end : s .left ≡ [] → ended s ≡ decode f src
+pub continues-start : (f : Frame) (src : List ℕ) → Continues f (decode f src) (start f src)
+unfolding decode start
+continues-start f src = continues-first f (start f src)
+
+module _ {f : Frame} {whole : Run} {s : State} (on : Continues f whole s) where
+  pub continues-end : s .left ≡ [] → ended s ≡ whole
   continues-end e = sym (run-end f (on .fuel) s e) ∙ on .goes
 
   module _ (more : 0 < length (s .left)) where
-    next : (x : Step) → x ≡ step f s → thenRun (run f (on .fuel - 1)) x ≡ decode f src
+    next : (x : Step) → x ≡ step f s → thenRun (run f (on .fuel - 1)) x ≡ whole
     next x e =
         let n : on .fuel ≡ suc (on .fuel - 1) = omega (arith, on .enough) in
         ap (λ (y : Step). thenRun (run f (on .fuel - 1)) y) e
@@ -48,7 +52,7 @@ module _ {f : Frame} {src : List ℕ} {s : State} (on : Continues f src s) where
         ∙ on .goes
 
     -- another state from which the next order is the same
-    pub continues-as : (t : State) → t .left ≡ s .left → step f t ≡ step f s → Continues f src t
+    pub continues-as : (t : State) → t .left ≡ s .left → step f t ≡ step f s → Continues f whole t
     continues-as t l e =
         let n : on .fuel ≡ suc (on .fuel - 1) = omega (arith, on .enough) in
         record {
@@ -59,11 +63,11 @@ module _ {f : Frame} {src : List ℕ} {s : State} (on : Continues f src s) where
 
     -- the next order's ending e and state t
     module _ (e : Ending) (t : State) (is : endWith e t ≡ step f s) where
-      pub continues-refused : {r : Refusal} → e ≡ Ending.refused r → thenRun ended (endWith e t) ≡ decode f src
+      pub continues-refused : {r : Refusal} → e ≡ Ending.refused r → thenRun ended (endWith e t) ≡ whole
       unfolding thenRun endWith
       continues-refused {r} p = rw p (ap (λ (x : Ending). thenRun (run f (on .fuel - 1)) (endWith x t)) (sym p) ∙ next (endWith e t) is)
 
-      pub continues-on : e ≡ complete → length (t .left) < length (s .left) → Continues f src t
+      pub continues-on : e ≡ complete → length (t .left) < length (s .left) → Continues f whole t
       unfolding thenRun endWith
       continues-on p less =
           record {

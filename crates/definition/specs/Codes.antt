@@ -77,6 +77,18 @@ pub headers-tested : tabulate headerTest 0 256 ≡ tabulate (λ _. true) 0 256
 unfolding tabulate headerTest lengthTest lengthNumber ownAt megaNumber kindNumber numberIn hasHeader orders.isMegaMega rows orders.row noRow rowOf orders.rowIn placeOf orders.placeIn ownLength megaOf
 headers-tested = refl
 
+-- ---- places of run lengths
+
+-- by the kind's number and the header's own run length: where the header has one, in the header, or nowhere from number 8 on; else
+-- in the byte after it, or in two from F0 on
+unfoldable pub placeBy : ℕ → ℕ → ℕ → Place
+placeBy c n h = pick (ltb 0 n) (pick (ltb c 8) inHeader nowhere) (pick (ltb h 0xF0) inByte inTwoBytes)
+
+-- so it is for each of the 256 headers
+pub places-told : tabulate (λ h. placeOf (rowOf h) h) 0 256 ≡ tabulate (λ h. placeBy (kindNumber h) (lengthNumber h) h) 0 256
+unfolding tabulate placeBy lengthNumber ownAt kindNumber numberIn hasHeader orders.isMegaMega rows orders.row noRow rowOf orders.rowIn placeOf orders.placeIn ownLength
+places-told = refl
+
 -- ---- the mask tests
 
 -- regular orders: three bits; mega and special orders: the whole byte; lite orders: four bits

@@ -11,6 +11,7 @@ use Rattle.picture.specs.Pixels.{Pixel, firstPixel, pixelAt}
 use Rattle.picture.specs.Sizes.{Refusal, refusal, Frame}
 use Rattle.definition.specs.Orders.{Kind, BgRun, FgRun, FgBgImage, ColorRun, ColorImage, SetFgRun, SetFgBgImage, DitheredRun, SpecialFgBg1, SpecialFgBg2, White, Black, NoOrder, Place, Head, head, headOf, rowOf, placeOf}
 use Rattle.definition.specs.Decode.{Ink, solid, fgInk, bgInk, insertInk, maskInk, ditherInk, paint, State, state, Step, done}
+use Rattle.definition.specs.Records.{Record}
 
 -- ---- what an order reads and paints, by counts alone
 
@@ -217,6 +218,19 @@ pastFirstRow f m =
 -- the next order, of a stream with a byte left
 unfoldable pub planOf : Frame → Progress → Plan
 planOf f m = planFrom f (getD (m .left) 0 0) (pastFirstRow f m) (headOf (m .left))
+
+-- what the order will have been, where it is completed
+unfoldable pub planRecord : Plan → Record
+planRecord a =
+    record {
+      header = a .header;
+      place = a .place;
+      kind = a .kind;
+      runLength = a .runLength;
+      pixels = a .pixels;
+      firstRow = a .after .firstRow;
+      inserted = a .inserted;
+    }
 
 -- ---- the plan carried out
 

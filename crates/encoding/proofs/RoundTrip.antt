@@ -46,13 +46,13 @@ abbrev whole : Frame → ℕ → List Pixel → ℕ → Result
 whole f c ps m = record { refusal = refusal 0 0 0; format = c; bytes = f .bytes; painted = ps; orders = m }
 
 module _ {f : Frame} {ps : List Pixel} (of : PictureOf f ps) (c : ℕ) (src : List ℕ) where
-  ends : (k m : ℕ) (after : Bool) (s : State) → Continues f src s → length ps ≤ k → Stands ps [] k after m s
+  ends : (k m : ℕ) (after : Bool) (s : State) → Continues f (decode f src) s → length ps ≤ k → Stands ps [] k after m s
       → ofRun f c (decode f src) ≡ whole f c ps (m + 0)
   unfolding ofRun resultOf
   ends k m after s on b here = rw (← continues-end on (here .left), here .painted, take-all k ps b, here .orders, add-zero)
 
   -- from pixel k on; n orders are enough
-  trip : (n k m : ℕ) (after : Bool) (s : State) → Continues f src s → length ps ≤ k + n
+  trip : (n k m : ℕ) (after : Bool) (s : State) → Continues f (decode f src) s → length ps ≤ k + n
       → Stands ps (streamOf (f .bytes) (ordersFrom (f .width) ps n k after)) k after m s
       → ofRun f c (decode f src) ≡ whole f c ps (m + length (ordersFrom (f .width) ps n k after))
   unfolding ordersFrom streamOf endWith
