@@ -9,7 +9,8 @@ use lib.Seq.{drop-drop, getD-drop}
 use Rattle.rle.specs.declared.head.RunLength.{RunLength as CodeLength}
 use Rattle.rle.specs.declared.head.RunLength.the-variants.{Of, Refused}
 use Rattle.picture.specs.declared.outcome.RleError.{RleError}
-use Rattle.definition.specs.Orders.{rowOf, lengthOf, headed, headOf}
+use Rattle.rle.specs.declared.record.Place.{Place as CodePlace}
+use Rattle.definition.specs.Orders.{rowOf, placeOf, lengthOf, headed, headOf}
 use Rattle.definition.specs.Codes.{kindNumber, kindOf}
 use Rattle.definition.proofs.Headers.{row-is}
 use Rattle.rle.specs.Heads.{lengthIn, ReadsLength, HeadAt, RefusedAt}
@@ -20,11 +21,14 @@ module _ (src : List ℕ) (pos h c : ℕ) (at : h ≡ getD src pos 0) (known : c
   unfolding headOf kindOf
   head-is x e = rw (e, known, getD-drop, add-zero, drop-drop, ← at, row-is)
 
-  pub head-read : (n next : ℕ) → h < 256 → ReadsLength src (pos + 1) (Of n next) (lengthOf (rowOf h) h (drop (pos + 1) src)) → HeadAt src pos c n next
+  pub head-read : (n next : ℕ) (p : CodePlace) → h < 256 → ReadsLength src (pos + 1) (placeOf (rowOf h) h) (Of n p next) (lengthOf (rowOf h) h (drop (pos + 1) src))
+      → HeadAt src pos (record { header = h; place = p; kind = c; «run_length» = n; next = next })
   unfolding headed
-  head-read n next byte reads =
+  head-read n next p byte reads =
       record {
-        is = head-is (Of n next) (reads .is);
+        is = head-is (Of n p next) (reads .is);
+        header = at;
+        stands = reads .stands;
         some = reads .fits .0;
         few = reads .fits .1;
         reads = omega (arith, reads .fits .2);
@@ -32,7 +36,7 @@ module _ (src : List ℕ) (pos h c : ℕ) (at : h ≡ getD src pos 0) (known : c
         fixed = fixed-read h byte known reads refl;
       }
 
-  pub head-refused : (e : RleError) (next : ℕ) → ReadsLength src (pos + 1) (Refused e next) (lengthOf (rowOf h) h (drop (pos + 1) src))
+  pub head-refused : (e : RleError) (next : ℕ) → ReadsLength src (pos + 1) (placeOf (rowOf h) h) (Refused e next) (lengthOf (rowOf h) h (drop (pos + 1) src))
       → RefusedAt src pos e next
   unfolding headed
   head-refused e next reads =

@@ -12,6 +12,7 @@ pub mod Stream
 pub mod Walks
 pub mod Calls
 pub mod Counting
+pub mod Finding
 pub mod Theorems
 pub mod Writers
 pub mod Parts

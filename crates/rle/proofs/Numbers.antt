@@ -11,10 +11,11 @@ use lib.ListN.{getD, drop, replicate, List·getD-map, List·getD-eq-default}
 use borrow.Author.Tests.{lt-ltb, le-ltb, ltb-true, ltb-false, ne-eqb}
 use Rattle.rle.specs.declared.head.RunLength.{RunLength as CodeLength}
 use Rattle.rle.specs.declared.head.RunLength.the-variants.{Of}
+use Rattle.rle.specs.declared.record.Place.{Place as CodePlace}
 use Rattle.base.specs.Picks.{pick}
 use Rattle.picture.specs.Sizes.{refusal}
 use Rattle.base.proofs.Tests.{by-test}
-use Rattle.definition.specs.Orders.{White, Black, NoOrder, Row, rows, row, noRow, rowOf, runLength, lengthOf}
+use Rattle.definition.specs.Orders.{White, Black, NoOrder, Row, rows, row, noRow, rowOf, Place, runLength, lengthOf}
 use Rattle.definition.specs.Codes.{kindRow, kindOf, kindNumber, lengthNumber}
 use Rattle.definition.specs.Plan.{counts, refused, runCounts, countsOf, leavesInsert, leaves, insertIn}
 use Rattle.rle.specs.Heads.{ReadsLength, lengthIn}
@@ -54,7 +55,8 @@ special-number (suc (suc (suc (suc (suc (suc (suc (suc (suc zero))))))))) h z o 
 special-number (suc (suc (suc (suc (suc (suc (suc (suc (suc (suc m)))))))))) h z o i a b c d = absurd (omega arith)
 
 -- the lengths of numbers from 8 on are read as they are fixed
-pub fixed-read : {src : List ℕ} {a c n next : ℕ} (h : ℕ) {l : CodeLength} → h < 256 → c ≡ kindNumber h → ReadsLength src a l (lengthOf (rowOf h) h (drop a src)) → l ≡ Of n next
+pub fixed-read : {src : List ℕ} {a c n next : ℕ} {q : Place} {p : CodePlace} (h : ℕ) {l : CodeLength} → h < 256 → c ≡ kindNumber h
+    → ReadsLength src a q l (lengthOf (rowOf h) h (drop a src)) → l ≡ Of n p next
     → (9 < c → n ≡ 1) × (7 < c → c ≤ 9 → n ≡ 8)
 fixed-read {src} {a} {c} {n} {next} h byte known reads is =
     (λ k. fixed (omega arith) ∙ rw (lt-ltb 9 c k), λ k m. fixed k ∙ rw (le-ltb 9 c m))

@@ -8,6 +8,7 @@ use native.Mathlib.Omega.{arith}
 use lib.ListN.{length, drop, drop-of-length-le, length-drop}
 use Rattle.rle.specs.declared.state.Frame.{Frame as CodeFrame}
 use Rattle.rle.specs.declared.state.State.{State as CodeState}
+use Rattle.rle.specs.declared.head.OrderHead.{OrderHead}
 use Rattle.rle.specs.declared.state.Stepped.{Stepped}
 use Rattle.rle.specs.declared.plan.Ending.{Ending as CodeEnding}
 use Rattle.rle.specs.declared.plan.Ending.the-variants.{Complete, Refused}
@@ -43,8 +44,8 @@ module _ (f : CodeFrame) (src dst : List ℕ) (s : CodeState) (begun : firstRowE
       λ i. orderFrom (frameOf f) (from i) (sym e i)
 
   -- its head was read
-  pub order-executes : {c n next : ℕ} → HeadAt src (s .pos) c n next → (after : List ℕ) (r : Stepped)
-      → Executes (frameOf f) src dst after (atPos s next) r (orderOf (frameOf f) (kindOf c) n)
+  pub order-executes : {o : OrderHead} → HeadAt src (s .pos) o → (after : List ℕ) (r : Stepped)
+      → Executes (frameOf f) src dst after (atPos s (o .next)) r (orderOf (frameOf f) (kindOf (o .kind)) (o .«run_length»))
       → Executes (frameOf f) src dst after s r (step (frameOf f))
   unfolding orderFrom withLeft
   order-executes at after r d =

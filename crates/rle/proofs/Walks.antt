@@ -1,141 +1,302 @@
--- Laws of a walk without a target: an order's progress is its plan's, and the walk of a stream ends as its decoding does. Assumes nothing.
+-- Laws of a walk without a target: an order's progress and record are its plan's, and the orders from each state that the walk stands
+-- for are those of the definition. Assumes nothing.
 use mathlib.Core.Path.{_≡_, refl, ap, sym, _∙_}
+use mathlib.Core.Bool.{Bool, false}
 use mathlib.Core.List.{List}
-use Prim.Native.Nat.{ℕ, _-_, _≤_, _<_, zero-le}
-use native.Mathlib.Nat.{add-zero}
+use Prim.Native.Nat.{ℕ, _+_, _-_, _≤_, _<_, zero-le}
+use native.Mathlib.Nat.{le-refl, add-zero, sub-zero}
 use native.Mathlib.Omega.{arith}
-use lib.Dec.{eqb}
+use lib.Dec.{ltb, eqb}
 use lib.ListN.{length, drop, length-drop, drop-of-length-le}
-use lib.Seq.{drop-drop}
+use lib.Seq.{drop-drop, getD-drop}
+use Rattle.base.specs.Picks.{pick}
+use Rattle.rle.specs.declared.head.OrderHead.{OrderHead}
 use Rattle.rle.specs.declared.plan.Ending.the-variants.{Complete, Refused}
 use Rattle.rle.specs.declared.plan.Plan.{Plan as CodePlan}
+use Rattle.rle.specs.declared.record.OrderRecord.{OrderRecord}
 use Rattle.rle.specs.declared.state.Frame.{Frame as CodeFrame}
-use Rattle.rle.specs.declared.state.State.{State as CodeState}
-use Rattle.rle.specs.declared.state.Stepped.{Stepped}
+use Rattle.rle.specs.declared.walk.Stop.the-variants as stop
+use Rattle.rle.specs.declared.walk.Walk.{Walk}
 use Rattle.picture.specs.declared.outcome.RleError.{RleError}
 use Rattle.picture.specs.Sizes.{Frame}
+use Rattle.picture.specs.Outcomes.{refusalOf}
 use Rattle.definition.specs.Codes.{kindOf}
-use Rattle.definition.specs.Decode.{State, thenRun, step, start}
-use Rattle.definition.specs.Plan.{countsOf, insertAfter, ordersAfter, Progress, progressOf, planBy, planFrom, pastFirstRow, planOf, endWith, planState, planStep}
+use Rattle.definition.specs.Decode.{State, thenRun, step, run}
+use Rattle.definition.specs.Plan.{Ending, complete, countsOf, insertAfter, ordersAfter, Progress, progress, progressOf, planBy, planFrom, pastFirstRow, planOf, planRecord, endWith, planState, planStep}
+use Rattle.definition.specs.Records.{ordersFrom, nth}
 use Rattle.definition.specs.Runs.{Continues}
-use Rattle.definition.proofs.Planned.{step-planned, progress-planned, Within, kind-within, orders-few}
-use Rattle.definition.proofs.Runs.{continues-start, continues-end, continues-refused, continues-on}
+use Rattle.definition.proofs.Planned.{step-planned, progress-planned, Within, kind-within}
+use Rattle.definition.proofs.Records.{meant-end, meant-refused, meant-next, meant-later, record-planned}
+use Rattle.definition.proofs.Runs.{continues-first, continues-end, continues-refused, continues-on}
 use Rattle.rle.specs.Heads.{HeadAt, RefusedAt}
 use Rattle.rle.specs.Planning.{countsIn, endingIn}
-use Rattle.rle.specs.States.{frameOf, atPos, completedIn, refusedIn, Fits, finishedOf, firstRowEnded, startOf}
-use Rattle.rle.specs.Walks.{progressIn, WalksStream}
+use Rattle.rle.specs.Records.{recordIn}
+use Rattle.rle.specs.States.{frameOf}
+use Rattle.rle.specs.Walking.{recordAt, stoppedAt, ReachesOrder, RunsOut, WalksOrders}
+use Rattle.rle.specs.Walks.{StandsFor}
 use Rattle.rle.proofs.Numbers.{insert-number}
+
+-- ---- progress
+
+-- the definition's progress that a walk stands for, with k orders completed
+abbrev pub progressIn : List ℕ → ℕ → Walk → Progress
+progressIn src k w = progress (drop (w .pos) src) (w .pixels) (w .insert) (w .«first_row») k
+
+stands-progress : {src : List ℕ} {w : Walk} {s : State} → StandsFor src w s → progressIn src (s .orders) w ≡ progressOf s
+unfolding progressOf
+stands-progress {s = s} is = sym (λ i. progress (is .left i) (is .pixels i) (is .insert i) (is .mark i) (s .orders))
+
+progress-stands : (src : List ℕ) (w : Walk) (s : State) → progressIn src (s .orders) w ≡ progressOf s → StandsFor src w s
+unfolding progressOf
+progress-stands src w s e =
+    record {
+      left = ap (λ (m : Progress). m .left) (sym e);
+      pixels = ap (λ (m : Progress). m .pixels) (sym e);
+      insert = ap (λ (m : Progress). m .insert) (sym e);
+      mark = ap (λ (m : Progress). m .firstRow) (sym e);
+    }
 
 -- ---- one order
 
--- ending and progress are those of the plan
-pub record WalksOrder (f : Frame) (src : List ℕ) (s : CodeState) (r : Stepped) : Type 0 where
-  pub ending : endingIn (r .ending) ≡ planOf f (progressIn src s) .ending
-  pub after : progressIn src (r .state) ≡ planOf f (progressIn src s) .after
-  pub reads : s .pos < r .state .pos
-  pub place : r .state .pos ≤ length src
-  pub within : r .state .pixels ≤ f .total
-  pub counted : r .state .orders ≤ r .state .pixels
+-- it is refused as planned, with so many pixels painted by then
+pub record RefusesOrder (f : Frame) (src : List ℕ) (w : Walk) (e : RleError) (pixels : ℕ) : Type 0 where
+  pub ending : (k : ℕ) → Ending.refused (refusalOf e) ≡ planOf f (progressIn src k w) .ending
+  pub painted : (k : ℕ) → pixels ≡ planOf f (progressIn src k w) .after .pixels
+  pub kept : (k : ℕ) → k ≡ planOf f (progressIn src k w) .after .orders
+  pub more : w .pos < length src
+  pub within : pixels ≤ f .total
 
-module _ (f : CodeFrame) (src : List ℕ) (s : CodeState) (within : s .pixels ≤ f .total) (counted : s .orders ≤ s .pixels) where
+-- it is completed as planned, and the walk v stands behind it
+pub record CompletesOrder (f : Frame) (src : List ℕ) (w v : Walk) : Type 0 where
+  pub ending : (k : ℕ) → complete ≡ planOf f (progressIn src k w) .ending
+  pub after : (k : ℕ) → progressIn src (k + 1) v ≡ planOf f (progressIn src k w) .after
+  pub reads : w .pos < v .pos
+  pub place : v .pos ≤ length src
+  pub some : w .pixels < v .pixels
+  pub within : v .pixels ≤ f .total
+
+-- the first-row mark and the pending insert at the order's start
+abbrev pub markAt : CodeFrame → Walk → Bool
+markAt f w = pick (w .«first_row») (ltb (w .pixels) (f .width)) false
+
+abbrev pub insertAt : CodeFrame → Walk → Bool
+insertAt f w = pick (w .«first_row») (pick (ltb (w .pixels) (f .width)) (w .insert) false) (w .insert)
+
+module _ (f : CodeFrame) (src : List ℕ) (w : Walk) (within : w .pixels ≤ f .total) where
   -- its head was read
-  module _ {c n next : ℕ} (at : HeadAt src (s .pos) c n next) (p : CodePlan)
-      (plans : countsIn p ≡ countsOf (f .depth .bytes) (kindOf c) n (length src - next) (f .total - s .pixels)) where
-    enough : Within (length src - next) (f .total - s .pixels) (countsIn p)
-    enough = rw plans (kind-within (f .depth .bytes) (kindOf c) n (length src - next) (f .total - s .pixels) (at .some))
+  module _ {o : OrderHead} (at : HeadAt src (w .pos) o) (p : CodePlan)
+      (plans : countsIn p ≡ countsOf (f .depth .bytes) (kindOf (o .kind)) (o .«run_length») (length src - o .next) (f .total - w .pixels)) where
+    pub enough : Within (length src - o .next) (f .total - w .pixels) (countsIn p)
+    enough = rw plans (kind-within (f .depth .bytes) (kindOf (o .kind)) (o .«run_length») (length src - o .next) (f .total - w .pixels) (at .some))
 
-    pub walk-fits : f .total ≤ 67108864 → length src ≤ 18446744073709551615 → Fits (atPos (firstRowEnded f s) next) p
-    walk-fits total long =
-        record { read = omega (arith, enough .read, at .place); pixels = omega (arith, enough .pixels); counted = counted }
-
-    pub order-walked : WalksOrder (frameOf f) src s (finishedOf (atPos (firstRowEnded f s) next) p (eqb c 0))
-    unfolding planOf planFrom planBy pastFirstRow
-    order-walked =
+    pub order-refused : (e : RleError) → p .ending ≡ Refused e → RefusesOrder (frameOf f) src w e (w .pixels + p .pixels)
+    unfolding planOf planFrom planBy pastFirstRow ordersAfter
+    order-refused e is =
         record {
-          ending = rw (at .is, length-drop, ← plans);
-          after = rw (at .is, length-drop, ← plans, drop-drop, insert-number);
+          ending = λ k. rw (at .is, length-drop, ← plans) (ap endingIn (sym is));
+          painted = λ k. rw (at .is, length-drop, ← plans);
+          kept = λ k. rw (at .is, length-drop, ← plans, is);
+          more = omega (arith, at .reads, at .place);
+          within = omega (arith, enough .pixels);
+        }
+
+    pub order-completed : p .ending ≡ Complete
+        → CompletesOrder (frameOf f) src w
+        (record { pos = o .next + p .read; pixels = w .pixels + p .pixels; insert = eqb (o .kind) 0; «first_row» = markAt f w })
+    unfolding planOf planFrom planBy pastFirstRow insertAfter ordersAfter
+    order-completed is =
+        record {
+          ending = λ k. rw (at .is, length-drop, ← plans) (ap endingIn (sym is));
+          after = λ k. rw (at .is, length-drop, ← plans, is, drop-drop, insert-number);
           reads = omega (arith, at .reads);
           place = omega (arith, enough .read, at .place);
+          some = omega (arith, enough .some (ap endingIn is));
           within = omega (arith, enough .pixels);
-          counted = orders-few (endingIn (p .ending)) counted (enough .some);
         }
+
+    -- its record is the plan's
+    pub record-walked : (k : ℕ) → recordIn (recordAt o (p .pixels) (markAt f w) (insertAt f w)) ≡ planRecord (planOf (frameOf f) (progressIn src k w))
+    unfolding planRecord planOf planFrom planBy pastFirstRow
+    record-walked k = rw (at .is, length-drop, ← plans, getD-drop, add-zero, ← at .header, at .stands, insert-number)
 
   -- its head was refused
-  pub head-refused : {e : RleError} {next : ℕ} → RefusedAt src (s .pos) e next
-      → WalksOrder (frameOf f) src s (refusedIn e (atPos (firstRowEnded f s) next))
-  unfolding planOf planFrom planBy pastFirstRow insertAfter ordersAfter
+  pub head-refused : {e : RleError} {next : ℕ} → RefusedAt src (w .pos) e next → RefusesOrder (frameOf f) src w e (w .pixels)
+  unfolding planOf planFrom planBy pastFirstRow ordersAfter
   head-refused at =
       record {
-        ending = rw (at .is);
-        after = rw (at .is, add-zero);
-        reads = at .reads;
-        place = at .place;
+        ending = λ k. rw (at .is);
+        painted = λ k. rw (at .is, add-zero);
+        kept = λ k. rw (at .is);
+        more = omega (arith, at .reads, at .place);
         within = within;
-        counted = counted;
       }
 
--- ---- the whole stream
+-- ---- orders from a state on
 
--- what holds between two orders: a state of the definition has this progress, and from it the orders left give what the stream gives
-pub record WalkedTo (f : Frame) (src : List ℕ) (s : CodeState) : Type 0 where
-  pub within : s .pixels ≤ f .total
-  pub counted : s .orders ≤ s .pixels
+-- from the state `first` k orders led to the walk w, which stands for a state with the same orders to come; number n of all of them is
+-- meant
+pub record Leads (f : Frame) (src : List ℕ) (first : State) (n k : ℕ) (w : Walk) : Type 0 where
   pub state : State
-  pub reached : progressIn src s ≡ progressOf state
-  pub continues : Continues f src state
+  pub reached : progressIn src (state .orders) w ≡ progressOf state
+  pub counted : first .orders + k ≡ state .orders
+  pub continues : Continues f (run f (length (first .left)) first) state
+  pub fuel : ℕ
+  pub enough : length (state .left) ≤ fuel
+  pub meant : nth (ordersFrom f fuel state) (n - k) ≡ nth (ordersFrom f (length (first .left)) first) n
 
-pub walked-start : (f : CodeFrame) (src : List ℕ) → WalkedTo (frameOf f) src (startOf f)
-unfolding progressOf start
-walked-start f src =
-    record { within = zero-le; counted = zero-le; state = start (frameOf f) src; reached = refl; continues = continues-start (frameOf f) src }
-
-left-is : (src : List ℕ) (s : CodeState) (t : State) → progressIn src s ≡ progressOf t → t .left ≡ drop (s .pos) src
+left-is : (src : List ℕ) (w : Walk) (t : State) → progressIn src (t .orders) w ≡ progressOf t → t .left ≡ drop (w .pos) src
 unfolding progressOf
-left-is src s t e = ap (λ (m : Progress). m .left) (sym e)
+left-is src w t e = ap (λ (m : Progress). m .left) (sym e)
 
-module _ {f : Frame} {src : List ℕ} {s : CodeState} (walked : WalkedTo f src s) where
-  here : walked .state .left ≡ drop (s .pos) src
-  here = left-is src s (walked .state) (walked .reached)
+module _ {f : Frame} {src : List ℕ} {first : State} {n k : ℕ} {w : Walk} (leads : Leads f src first n k w) where
+  here : leads .state .left ≡ drop (w .pos) src
+  here = left-is src w (leads .state) (leads .reached)
 
-  pub walked-end : length src ≤ s .pos → WalksStream f src (completedIn s)
+  pixels-here : w .pixels ≡ length (leads .state .painted)
+  unfolding progressOf
+  pixels-here = ap (λ (m : Progress). m .pixels) (leads .reached)
+
+  leads-end : length src ≤ w .pos → RunsOut f first n Complete (w .pixels) k
   unfolding thenRun endWith
-  walked-end h =
+  leads-end h =
+      let e = here ∙ drop-of-length-le src h in
       record {
-        state = walked .state;
-        is = continues-end (walked .continues) (here ∙ drop-of-length-le src h);
-        reached = walked .reached;
+        none = sym (leads .meant) ∙ meant-end f (leads .state) (leads .fuel) (leads .enough) (n - k) e;
+        state = leads .state;
+        is = continues-end (leads .continues) e;
+        painted = pixels-here;
+        counted = leads .counted;
       }
 
-  module _ {r : Stepped} (walks : WalksOrder f src s r) where
-    abbrev next : State
-    next = planState f (walked .state) (planOf f (progressOf (walked .state)))
+  abbrev next : State
+  next = planState f (leads .state) (planOf f (progressOf (leads .state)))
 
-    more : 0 < length (walked .state .left)
-    more = rw (here, length-drop) (omega arith)
+  -- the next order's ending and what it leaves, by the plan from the walk's progress
+  next-is : (e : Ending) → e ≡ planOf f (progressIn src (leads .state .orders) w) .ending → endWith e next ≡ step f (leads .state)
+  unfolding planStep
+  next-is e ends = rw (ends, leads .reached, step-planned)
 
-    next-is : endWith (endingIn (r .ending)) next ≡ step f (walked .state)
-    unfolding planStep
-    next-is = rw (walks .ending, walked .reached, step-planned)
+  more-here : w .pos < length src → 0 < length (leads .state .left)
+  more-here more = rw (here, length-drop) (omega arith)
 
-    next-reached : progressIn src (r .state) ≡ progressOf next
-    next-reached = rw (walks .after, walked .reached) (progress-planned f (walked .state))
+  leads-refused : {e : RleError} {pixels : ℕ} → RefusesOrder f src w e pixels → RunsOut f first n (Refused e) pixels k
+  unfolding progressOf planState
+  leads-refused {e} refuses =
+      let is = next-is (Ending.refused (refusalOf e)) (refuses .ending (leads .state .orders)) in
+      let more = more-here (refuses .more) in
+      let after = progress-planned f (leads .state) in
+      record {
+        none = sym (leads .meant) ∙ meant-refused f (leads .state) (leads .fuel) (leads .enough) (n - k) more (Ending.refused (refusalOf e)) next is refl;
+        state = next;
+        is = continues-refused (leads .continues) more (Ending.refused (refusalOf e)) next is refl;
+        painted = (rw (leads .reached) at (refuses .painted (leads .state .orders))) ∙ ap (λ (m : Progress). m .pixels) after;
+        counted = leads .counted ∙ (rw (leads .reached) at (refuses .kept (leads .state .orders))) ∙ ap (λ (m : Progress). m .orders) after;
+      }
 
-    pub walked-refused : {e : RleError} → r .ending ≡ Refused e → WalksStream f src r
-    walked-refused e =
+  module _ {v : Walk} (completes : CompletesOrder f src w v) where
+    more : 0 < length (leads .state .left)
+    more = more-here (omega (arith, completes .reads, completes .place))
+
+    done-is : endWith complete next ≡ step f (leads .state)
+    done-is = next-is complete (completes .ending (leads .state .orders))
+
+    next-progress : progressIn src (leads .state .orders + 1) v ≡ progressOf next
+    next-progress = rw (completes .after (leads .state .orders), leads .reached) (progress-planned f (leads .state))
+
+    next-orders : leads .state .orders + 1 ≡ next .orders
+    unfolding progressOf
+    next-orders = ap (λ (m : Progress). m .orders) next-progress
+
+    next-reached : progressIn src (next .orders) v ≡ progressOf next
+    next-reached = ap (λ (o : ℕ). progressIn src o v) (sym next-orders) ∙ next-progress
+
+    leads-order : k ≡ n → (x : OrderRecord) → recordIn x ≡ planRecord (planOf f (progressIn src (leads .state .orders) w)) → ReachesOrder f src first n x v (k + 1)
+    leads-order now x told =
         record {
-          state = next;
-          is = continues-refused (walked .continues) more (endingIn (r .ending)) next next-is (ap endingIn e);
-          reached = next-reached;
+          order = record { before = leads .state; after = next };
+          is =
+              sym (leads .meant)
+              ∙ meant-next f (leads .state) (leads .fuel) (leads .enough) (n - k) more complete next done-is refl (omega arith);
+          told =
+              rw (told, leads .reached)
+              (sym (record-planned f (leads .state) (sym (rw (leads .reached) at (completes .ending (leads .state .orders))))));
+          stands = progress-stands src v next next-reached;
+          counted = omega arith;
         }
 
-    pub walked-on : r .ending ≡ Complete → WalkedTo f src (r .state)
-    walked-on e =
+    leads-on : k < n → Leads f src first n (k + 1) v
+    leads-on later =
+        let l : length (next .left) < length (leads .state .left) =
+        rw (left-is src v next next-reached, here) (simp length-drop (omega (arith, completes .reads, completes .place))) in
         record {
-          within = walks .within;
-          counted = walks .counted;
           state = next;
           reached = next-reached;
-          continues =
-              continues-on (walked .continues) more (endingIn (r .ending)) next next-is (ap endingIn e)
-              (rw (left-is src (r .state) next next-reached, here) (simp length-drop (omega arith)));
+          counted = omega (arith, leads .counted, next-orders);
+          continues = continues-on (leads .continues) more complete next done-is refl l;
+          fuel = leads .fuel - 1;
+          enough = omega (arith, leads .enough);
+          meant =
+              sym (meant-later f (leads .state) (leads .fuel) (leads .enough) (n - k) more complete next done-is refl (n - (k + 1)) (omega arith))
+              ∙ leads .meant;
+        }
+
+-- ---- the walk
+
+-- what holds between two orders of a walk, of which k are completed
+pub record WalkedTo (f : Frame) (src : List ℕ) (from : Walk) (n k : ℕ) (w : Walk) : Type 0 where
+  pub within : w .pixels ≤ f .total
+  pub counted : k ≤ w .pixels
+  pub few : k ≤ n
+  pub leads : (first : State) → StandsFor src from first → Leads f src first n k w
+
+pub walked-start : (f : Frame) (src : List ℕ) (n : ℕ) (w : Walk) → w .pixels ≤ f .total → WalkedTo f src w n 0 w
+walked-start f src n w within =
+    record {
+      within = within;
+      counted = zero-le;
+      few = zero-le;
+      leads = λ first is.
+          record {
+            state = first;
+            reached = stands-progress is;
+            counted = add-zero (first .orders);
+            continues = continues-first f first;
+            fuel = length (first .left);
+            enough = le-refl _;
+            meant = rw sub-zero;
+          };
+    }
+
+module _ {f : Frame} {src : List ℕ} {from : Walk} {n k : ℕ} {w : Walk} (walked : WalkedTo f src from n k w) where
+  pub walked-end : length src ≤ w .pos → WalksOrders f src from n (stoppedAt stop.End w k)
+  walked-end h =
+      record {
+        within = omega (arith, walked .within, walked .counted);
+        stops = λ first is. leads-end (walked .leads first is) h;
+      }
+
+  pub walked-refused : {e : RleError} {v : Walk} → RefusesOrder f src w e (v .pixels)
+      → WalksOrders f src from n (stoppedAt (stop.Refused e) v k)
+  walked-refused refuses =
+      record {
+        within = omega (arith, walked .within, walked .counted);
+        stops = λ first is. leads-refused (walked .leads first is) refuses;
+      }
+
+  module _ {v : Walk} (completes : CompletesOrder f src w v) where
+    pub walked-order : n < k + 1 → (x : OrderRecord) → ((j : ℕ) → recordIn x ≡ planRecord (planOf f (progressIn src j w)))
+        → WalksOrders f src from n (stoppedAt (stop.Order x) v (k + 1))
+    walked-order now x told =
+        record {
+          within = omega (arith, walked .counted, completes .some, completes .within);
+          stops = λ first is. let l = walked .leads first is in leads-order l completes (omega (arith, walked .few)) x (told (l .state .orders));
+        }
+
+    pub walked-on : k + 1 ≤ n → WalkedTo f src from n (k + 1) v
+    walked-on later =
+        record {
+          within = completes .within;
+          counted = omega (arith, walked .counted, completes .some);
+          few = later;
+          leads = λ first is. leads-on (walked .leads first is) completes (omega arith);
         }

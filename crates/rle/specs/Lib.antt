@@ -1,6 +1,7 @@
 pub mod Report
 pub mod Guarantees
 pub mod Stored
+pub mod Records
 pub mod Heads
 pub mod Planning
 pub mod Painting
@@ -8,4 +9,5 @@ pub mod States
 pub mod Orders
 pub mod Operands
 pub mod Walks
+pub mod Walking
 pub mod Reporting

@@ -48,7 +48,7 @@ pub record BetweenOrders (f : Frame) (src before after : List ℕ) (s : CodeStat
   pub place : s .pos ≤ length src
   pub same : length after ≡ length before
   pub rest : drop (s .pixels * f .bytes) after ≡ drop (s .pixels * f .bytes) before
-  pub continues : Continues f src (stateOf f src after s)
+  pub continues : Continues f (decode f src) (stateOf f src after s)
 
 -- the whole stream is decoded
 pub record Decodes (f : Frame) (src before after : List ℕ) (r : Stepped) : Type 0 where

@@ -1,21 +1,39 @@
--- What a walk over the orders without a target promises: the definition's plans.
+-- What a walk over a stream's orders promises: the orders of the definition, from each state on that the walk stands for.
 use mathlib.Core.Path.{_≡_}
 use mathlib.Core.List.{List}
+use mathlib.Core.Bool.{true, false}
 use Prim.Native.Nat.{ℕ}
-use lib.ListN.{drop}
-use Rattle.picture.specs.Sizes.{Frame}
-use Rattle.definition.specs.Decode.{State, decode}
-use Rattle.definition.specs.Plan.{Progress, progress, progressOf}
-use Rattle.rle.specs.declared.state.State.{State as CodeState}
-use Rattle.rle.specs.declared.state.Stepped.{Stepped}
-use Rattle.rle.specs.Orders.{runIn}
+use lib.ListN.{length, drop}
+use Rattle.picture.specs.Sizes.{Frame, Checked, refused, accepted, checked}
+use Rattle.definition.specs.Decode.{State}
+use Rattle.definition.specs.Records.{Order, ordersFrom, recordOf, Numbered, order, noOrder, nth}
+use Rattle.rle.specs.declared.walk.Walk.{Walk}
+use Rattle.rle.specs.declared.walk.Found.{Found}
+use Rattle.rle.specs.declared.walk.Found.the-variants as found
+use Rattle.rle.specs.Records.{recordIn}
 
--- the definition's progress that the code's state stands for
-abbrev pub progressIn : List ℕ → CodeState → Progress
-progressIn src s = progress (drop (s .pos) src) (s .pixels) (s .insert) (s .«first_row») (s .orders)
+-- the walk at a stream's start
+abbrev pub startWalk : Walk
+startWalk = record { pos = 0; pixels = 0; insert = false; «first_row» = true }
 
--- the whole stream is walked: it ends as the definition ends, but for the pixels and the foreground
-pub record WalksStream (f : Frame) (src : List ℕ) (r : Stepped) : Type 0 where
-  pub state : State
-  pub is : runIn (r .ending) state ≡ decode f src
-  pub reached : progressIn src (r .state) ≡ progressOf state
+-- the walk stands for a state of the definition, whatever its pixels, its foreground and its count of orders are
+pub record StandsFor (src : List ℕ) (w : Walk) (s : State) : Type 0 where
+  pub left : s .left ≡ drop (w .pos) src
+  pub pixels : length (s .painted) ≡ w .pixels
+  pub insert : s .insert ≡ w .insert
+  pub mark : s .firstRow ≡ w .«first_row»
+
+-- what was found is the order o, if there is one: its record, and a walk that stands for the state after it
+abbrev pub Finds : Frame → List ℕ → Found → Numbered Order → Type 0
+Finds f src (found.Order r w) (order o) = (recordIn r ≡ recordOf f o) × StandsFor src w (o .after)
+Finds f src (found.Order r w) noOrder = ⊥
+Finds f src found.NoOrder (order o) = ⊥
+Finds f src found.NoOrder noOrder = Unit {0}
+
+abbrev pub FindsIn : List ℕ → Checked → Walk → ℕ → Found → Type 0
+FindsIn src (refused r) w n x = x ≡ found.NoOrder
+FindsIn src (accepted f k) w n x = (s : State) → StandsFor src w s → Finds f src x (nth (ordersFrom f (length (s .left)) s) n)
+
+-- order number n of those that the stream completes from each state on that the walk stands for; none where depth or sizes are refused
+abbrev pub FindsOrder : List ℕ → ℕ → ℕ → ℕ → Walk → ℕ → Found → Type 0
+FindsOrder src bpp w h from n x = FindsIn src (checked bpp w h) from n x

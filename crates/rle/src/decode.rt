@@ -44,8 +44,8 @@ pub(crate) fn orders_to(
         match h {
             Head::End => return completed(t),
             Head::Refused(e, next) => return refused(e, moved(t, next)),
-            Head::Order(kind, n, next) => {
-                let r = order(src, dst, f, moved(t, next), kind, n);
+            Head::Order(o) => {
+                let r = order(src, dst, f, moved(t, o.next), o.kind, o.run_length);
                 let e = r.ending;
                 if let Ending::Refused(_) = e {
                     return r;

@@ -4,6 +4,7 @@
 ghost use mathlib.Core.Path.{_≡_};
 ghost use Rattle.definition.specs.Decode.{result, summaryOf};
 ghost use Rattle.rle.specs.Report.{summaryIn, Decompresses};
+ghost use Rattle.rle.specs.Walks.{FindsOrder};
 
 pub(crate) mod decode;
 pub(crate) mod head;
@@ -14,21 +15,28 @@ pub(crate) mod paint;
 pub(crate) mod pixel;
 pub mod plain;
 pub(crate) mod plan;
+pub mod record;
 pub mod report;
 pub(crate) mod run;
 pub(crate) mod state;
-pub(crate) mod walk;
+pub mod walk;
 
 use decode::decompress_impl;
 use picture::PictureSize;
 use picture::RleError;
 use picture::depth_of;
 use picture::picture_size;
+pub use record::OrderRecord;
+pub use record::Place;
 pub use report::Report;
 use report::not_decoded;
 use report::report_of;
 use state::Frame;
-use walk::walk_stream;
+pub use walk::Found;
+pub use walk::Walk;
+use walk::ending_by;
+use walk::found_by;
+use walk::walk_orders;
 
 // Decodes the stream `src` of a picture into the first bytes of `dst`, of which the bytes after the painted pixels stay.
 pub fn decompress(src: &[u8], dst: &mut [u8], width: usize, height: usize, bpp: usize) -> Report
@@ -70,10 +78,43 @@ pub fn count_orders(src: &[u8], width: usize, height: usize, bpp: usize) -> Repo
                 width,
                 total: width * height,
             };
-            let r = walk_stream(src, f);
-            let e = r.ending;
-            let s = r.state;
-            report_of(e, s.pixels, s.orders, depth.format)
+            let start = Walk {
+                pos: 0,
+                pixels: 0,
+                insert: false,
+                first_row: true,
+            };
+            // No picture completes more orders than it has pixels.
+            let r = walk_orders(src, f, start, f.total);
+            let stop = r.stop;
+            let w = r.walk;
+            report_of(ending_by(stop), w.pixels, r.orders, depth.format)
+        }
+    }
+}
+
+// The order number n, from 0, of those that the stream completes from `from` on: its record, and the walk behind it. From the start of
+// a stream on they are those that `decompress` completes. Every walk may be gone on from, also one that no stream leads to.
+pub fn nth_order(src: &[u8], width: usize, height: usize, bpp: usize, from: Walk, n: usize) -> Found
+    ensures { λ r. ⌜ FindsOrder (now (src .entry)) bpp width height from n r ⌝ }
+{
+    let size = picture_size(width, height, bpp);
+    match size {
+        PictureSize::Refused(_) => Found::NoOrder,
+        PictureSize::Bytes(_) => {
+            let depth = depth_of(bpp);
+            let f = Frame {
+                depth,
+                width,
+                total: width * height,
+            };
+            if f.total < from.pixels {
+                return Found::NoOrder;
+            }
+            let r = walk_orders(src, f, from, n);
+            let stop = r.stop;
+            let w = r.walk;
+            found_by(stop, w)
         }
     }
 }

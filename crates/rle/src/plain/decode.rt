@@ -1,9 +1,5 @@
 // The plain decoder's loop over the stream's orders.
-ghost use mathlib.Core.Path.{_≡_};
-ghost use mathlib.Core.Bool.{false};
-ghost use lib.Dec.{ltb};
 ghost use lib.ListN.{length};
-ghost use Rattle.base.specs.Picks.{pick};
 ghost use Rattle.rle.specs.States.{frameOf, Framed};
 ghost use Rattle.rle.specs.Orders.{Decodes};
 use crate::head::Head;
@@ -15,29 +11,8 @@ use crate::plan::Ending;
 use crate::state::Frame;
 use crate::state::Stepped;
 use crate::state::start;
-
-// Whether an order that starts with k pixels painted is still in the first row of w pixels: once the row has ended, it has for good.
-pub(crate) fn still_first_row(first: bool, k: usize, w: usize) -> bool
-    ensures { λ r. ⌜ r ≡ pick first (ltb k w) false ⌝ }
-{
-    if first {
-        return k < w;
-    }
-    false
-}
-
-// A pending insert is dropped where the first row ends.
-pub(crate) fn insert_kept(insert: bool, first: bool, k: usize, w: usize) -> bool
-    ensures { λ r. ⌜ r ≡ pick first (pick (ltb k w) insert false) insert ⌝ }
-{
-    if first {
-        if k < w {
-            return insert;
-        }
-        return false;
-    }
-    insert
-}
+use crate::walk::insert_kept;
+use crate::walk::still_first_row;
 
 // All orders of the stream.
 pub(crate) fn decode(src: &[u8], dst: &mut [u8], f: Frame) -> Stepped
@@ -66,9 +41,9 @@ pub(crate) fn decode(src: &[u8], dst: &mut [u8], f: Frame) -> Stepped
                     state: t,
                 };
             }
-            Head::Order(kind, n, next) => {
-                t.pos = next;
-                let r = order(src, dst, f, t, kind, n);
+            Head::Order(o) => {
+                t.pos = o.next;
+                let r = order(src, dst, f, t, o.kind, o.run_length);
                 let e = r.ending;
                 if let Ending::Refused(_) = e {
                     return r;

@@ -37,7 +37,7 @@ returns-2 c =
     let u = l .before .before .before .before .before in
     let s = u .before .before in
     let is = u8-is _ _ _ _ (u .u8-from .ensures) (l .before .before .before .header .given .1) in
-    head-read (s .args .src .now) (s .args .pos) _ _ (is .1) (l .before .kind .ensures) _ _ (omega (arith, is .1, u .before .shared-slice-known .given (s .args .pos)))
+    head-read (s .args .src .now) (s .args .pos) _ _ (is .1) (l .before .kind .ensures) _ _ _ (omega (arith, is .1, u .before .shared-slice-known .given (s .args .pos)))
     (rw (c .before .l .given .1) at (l .extract-run-length .ensures))
 
 returns-3 : tie.Need-returns-3
