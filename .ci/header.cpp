@@ -83,6 +83,48 @@ static void compress() {
          "nulambiro_compress_bound");
 }
 
+static void orders() {
+  // A run of the first row, an fg/bg image of one pixel, two background runs of
+  // one pixel each, and one that does not fit.
+  const uint8_t stream[] = {0x24, 0x40, 0x00, 0x05, 0xf0,
+                            0x01, 0x00, 0x01, 0x02};
+  const uint64_t records[4][2] = {{0x24, NULAMBIRO_LENGTH_IN_HEADER},
+                                  {0x40, NULAMBIRO_LENGTH_IN_ONE_BYTE},
+                                  {0xf0, NULAMBIRO_LENGTH_IN_TWO_BYTES},
+                                  {0x01, NULAMBIRO_LENGTH_IN_HEADER}};
+  uint64_t walk[NULAMBIRO_WALK_PLACES] = {0};
+  for (size_t n = 0; n < 4; n++) {
+    Report record, next;
+    nulambiro_order_record(stream, sizeof stream, 4, 2, 8, n, record.places);
+    expect(record[NULAMBIRO_RECORD_FOUND] == 1 &&
+               record[NULAMBIRO_RECORD_HEADER] == records[n][0] &&
+               record[NULAMBIRO_RECORD_PLACE] == records[n][1] &&
+               record[3] == 0 && record[7] == 0,
+           "nulambiro_order_record");
+    nulambiro_next_order(stream, sizeof stream, 4, 2, 8, walk, next.places);
+    expect(std::memcmp(next.places, record.places, sizeof next.places) == 0,
+           "nulambiro_next_order");
+  }
+
+  uint64_t end[NULAMBIRO_WALK_PLACES] = {0};
+  end[NULAMBIRO_WALK_BYTES] = 8;
+  end[NULAMBIRO_WALK_PIXELS] = 7;
+  end[NULAMBIRO_WALK_INSERT] = 1;
+  end[NULAMBIRO_WALK_LATER_ROW] = 1;
+  expect(std::memcmp(walk, end, sizeof walk) == 0,
+         "nulambiro_next_order for the walk");
+
+  Report past, stays;
+  const uint64_t none[NULAMBIRO_REPORT_PLACES] = {0};
+  nulambiro_order_record(stream, sizeof stream, 4, 2, 8, 4, past.places);
+  expect(std::memcmp(past.places, none, sizeof none) == 0,
+         "nulambiro_order_record past the last order");
+  nulambiro_next_order(stream, sizeof stream, 4, 2, 8, walk, stays.places);
+  expect(std::memcmp(stays.places, none, sizeof none) == 0 &&
+             std::memcmp(walk, end, sizeof walk) == 0,
+         "nulambiro_next_order past the last order");
+}
+
 static void colors() {
   uint8_t palette[NULAMBIRO_PALETTE_BYTES] = {0};
   const uint8_t entry[3] = {10, 20, 30};
@@ -146,6 +188,7 @@ static void rows() {
 int main() {
   decompress();
   compress();
+  orders();
   colors();
   rows();
   return failures == 0 ? 0 : 1;

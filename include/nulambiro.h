@@ -1,11 +1,12 @@
 /*
  * Nulambiro: a codec of interleaved RLE bitmaps, the compressed rectangles of
  * the Remote Desktop Protocol (MS-RDPBCGR 2.2.9.1.1.3.1.2.4 and 3.1.9): a
- * decoder, an encoder, and what is needed between decoded pixels and a screen.
+ * decoder, an encoder, a look at a stream's orders, and what is needed between
+ * decoded pixels and a screen.
  *
  * The library is one archive, libnulambiro.a, for x86-64. It has no state:
  * calls from several threads need no lock, as long as each has its own target
- * or output, and report.
+ * or output, walk and report.
  */
 #ifndef NULAMBIRO_H
 #define NULAMBIRO_H
@@ -190,6 +191,102 @@ void nulambiro_compress(const uint8_t *src, size_t src_len, uint8_t *dst,
  * No shorter output serves all pictures. Nothing is required of the numbers.
  */
 size_t nulambiro_compress_bound(size_t width, size_t height, size_t bpp);
+
+/* Places in the reports of nulambiro_order_record and nulambiro_next_order. */
+enum {
+  /* 1 if there is such an order, else 0, and then all other places are 0. */
+  NULAMBIRO_RECORD_FOUND = 0,
+  /* The order's header byte. */
+  NULAMBIRO_RECORD_HEADER = 1,
+  /* Where its length stands: one of the numbers below. */
+  NULAMBIRO_RECORD_PLACE = 2
+  /* Places 3 to 7 are always 0. */
+};
+
+/* Where the length of an order stands. */
+enum {
+  /* Nowhere: F9, FA, FD and FE are orders of one length. */
+  NULAMBIRO_LENGTH_NONE = 0,
+  /* In the header byte. */
+  NULAMBIRO_LENGTH_IN_HEADER = 1,
+  /* In the byte after the header. */
+  NULAMBIRO_LENGTH_IN_ONE_BYTE = 2,
+  /* In the two bytes after the header. */
+  NULAMBIRO_LENGTH_IN_TWO_BYTES = 3
+};
+
+/*
+ * Writes to report how the length of an order was written: of order n, counted
+ * from 0, of those that nulambiro_decompress completes with this stream, width,
+ * height and bpp in any target that has space.
+ *
+ * There is no such order exactly if at most n are completed, which is what
+ * nulambiro_decompress counts in report[NULAMBIRO_ORDERS]. A
+ * foreground/background image that a refusal cuts short is not completed, and
+ * where nulambiro_decompress refuses bpp or the sizes no order is.
+ *
+ * No target is needed and nothing is painted. A call takes as long as it takes
+ * to go over the orders up to n, whatever they paint; to look at all orders of
+ * a stream, go from one to the next by nulambiro_next_order.
+ *
+ * What the caller must provide: src must be readable for src_len bytes, or may
+ * be a null pointer if that is 0. report must have NULAMBIRO_REPORT_PLACES
+ * elements that do not overlap src; all of them are written. Nothing is
+ * required of the numbers.
+ */
+void nulambiro_order_record(const uint8_t *src, size_t src_len, size_t width,
+                            size_t height, size_t bpp, size_t n,
+                            uint64_t report[NULAMBIRO_REPORT_PLACES]);
+
+/* Places of a walk over the orders of a stream. */
+enum {
+  /* Bytes of the stream before the next order. */
+  NULAMBIRO_WALK_BYTES = 0,
+  /* Pixels that the orders so far have painted. */
+  NULAMBIRO_WALK_PIXELS = 1,
+  /* 1 if the last order was a background run, else 0. */
+  NULAMBIRO_WALK_INSERT = 2,
+  /* 1 if the first row has ended: the last order began past it; else 0. */
+  NULAMBIRO_WALK_LATER_ROW = 3,
+  /* Places 4 to 7 are 0. */
+  NULAMBIRO_WALK_PLACES = 8
+};
+
+/*
+ * Writes to report how the length of the next order of a stream was written,
+ * and moves the walk behind that order. A walk of zeros stands at the start of
+ * the stream: the first call from there gives the record of order 0, the next
+ * one that of order 1, as nulambiro_order_record does, but each call takes the
+ * time of one order:
+ *
+ *   uint64_t walk[NULAMBIRO_WALK_PLACES] = {0};
+ *   uint64_t report[NULAMBIRO_REPORT_PLACES];
+ *   for (;;) {
+ *     nulambiro_next_order(src, src_len, width, height, bpp, walk, report);
+ *     if (!report[NULAMBIRO_RECORD_FOUND])
+ *       break;
+ *     ...
+ *   }
+ *
+ * If no further order is completed, the walk stays as it is. That is so at the
+ * end of the stream, at an order that nulambiro_decompress refuses, and where
+ * it refuses bpp or the sizes.
+ *
+ * Every walk is taken, also one that no stream leads to: the order is then the
+ * one that comes in a state of decoding with these numbers.
+ * NULAMBIRO_WALK_INSERT and NULAMBIRO_WALK_LATER_ROW count as 1 unless they are
+ * 0, and places 4 to 7 are not looked at; if an order is found, all are written
+ * as above.
+ *
+ * What the caller must provide: src must be readable for src_len bytes, or may
+ * be a null pointer if that is 0. walk and report must have
+ * NULAMBIRO_WALK_PLACES and NULAMBIRO_REPORT_PLACES elements; neither may
+ * overlap the other or src. Nothing is required of the numbers.
+ */
+void nulambiro_next_order(const uint8_t *src, size_t src_len, size_t width,
+                          size_t height, size_t bpp,
+                          uint64_t walk[NULAMBIRO_WALK_PLACES],
+                          uint64_t report[NULAMBIRO_REPORT_PLACES]);
 
 /* The bytes of a palette: 256 entries of blue, green and red. */
 #define NULAMBIRO_PALETTE_BYTES 768

@@ -11,6 +11,9 @@
 //! [`compress`] and, into a slice that the caller lends, [`compress_into`] encode a picture as a
 //! stream that the decoder gives back whole, each byte the same.
 //!
+//! [`order_record`] and, for all of them one after the other, [`order_records`] tell how the orders
+//! of a stream were written: an order's header, and where its length stands.
+//!
 //! Between decoded pictures and a screen stand [`expand`], [`palette_look`], [`same_picture`] and
 //! [`row_to_show`].
 //!
@@ -43,6 +46,19 @@
 //! # Ok::<(), nulambiro::CompressError>(())
 //! ```
 //!
+//! The orders of a stream, by their headers and where their lengths stand:
+//!
+//! ```
+//! use nulambiro::{order_records, LengthPlace};
+//!
+//! // Both runs have four pixels. The second one takes two bytes more than it has to.
+//! let stream = [0x24, 0xF1, 0x04, 0x00];
+//! let orders: Vec<_> = order_records(&stream, 4, 2, 8)
+//!     .map(|record| (record.header, record.place))
+//!     .collect();
+//! assert_eq!(orders, [(0x24, LengthPlace::Header), (0xF1, LengthPlace::TwoBytes)]);
+//! ```
+//!
 //! # Linking
 //!
 //! The build script takes `libnulambiro.a` from the folder that `NULAMBIRO_LIB_DIR` names, or from
@@ -58,11 +74,15 @@ mod ffi;
 mod ffi_colors;
 #[allow(unsafe_code)]
 mod ffi_encoder;
+#[allow(unsafe_code)]
+mod ffi_orders;
+mod orders;
 mod report;
 pub mod rle;
 
 pub use colors::{expand, palette_look, row_to_show, same_picture, Picture};
 pub use encoder::{compress, compress_bound, compress_into, CompressError};
+pub use orders::{order_record, order_records, LengthPlace, OrderRecord, OrderRecords};
 pub use report::{Refusal, Report};
 pub use rle::RlePixelFormat;
 

@@ -1,3 +1,4 @@
 pub mod Numbers
 pub mod ColorNumbers
 pub mod EncoderNumbers
+pub mod RecordNumbers

@@ -7,6 +7,7 @@ ghost use Rattle.nulambiro.specs.Numbers.{numbers, target};
 
 pub mod colors;
 pub mod encoder;
+pub mod records;
 
 // A report in numbers.
 pub(crate) fn report_numbers(report: rle::Report) -> [u64; 8]
