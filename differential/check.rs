@@ -6,8 +6,10 @@ use crate::lent::Lent;
 use crate::library::{self, Report};
 use crate::oracle::{self, OLD};
 use crate::same::{same, same_bytes, Checked};
+use crate::walks;
 
-/// What is looked at beside the answer and the bytes of a target of the picture's length.
+/// What is looked at beside the answer, the bytes of a target of the picture's length, and the
+/// records of the orders.
 #[derive(Clone, Copy, PartialEq, Eq)]
 pub enum Effort {
     /// Nothing more.
@@ -21,6 +23,8 @@ pub enum Effort {
 /// Compares the two decoders; the buffers are kept from case to case.
 #[derive(Default)]
 pub struct Checker {
+    /// Records of orders compared so far.
+    pub records: u64,
     lent: Lent,
     oracle: [Vec<u8>; 2],
 }
@@ -28,6 +32,7 @@ pub struct Checker {
 impl Checker {
     pub fn check(&mut self, case: Case, effort: Effort) -> Checked {
         let report = self.exact(case, 0)?;
+        self.records += walks::check(case, report)?;
         if effort == Effort::Basic {
             return Ok(());
         }

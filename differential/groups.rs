@@ -5,8 +5,10 @@ use crate::check::{Checker, Effort};
 use crate::heap;
 use crate::limits::{BPPS, SIDES};
 use crate::random::Random;
+use crate::same::Checked;
 use crate::shrink::Failure;
 use crate::streams::{bytes, damage, filling, forms, orders, picture, DEPTHS};
+use crate::walks;
 use std::ops::RangeInclusive;
 use std::process::exit;
 
@@ -55,8 +57,8 @@ impl Run {
         }
     }
 
-    /// Runs every group of the mode; returns the number of streams.
-    pub fn all(mut self) -> u64 {
+    /// Runs every group of the mode; returns the numbers of streams and of records compared.
+    pub fn all(mut self) -> (u64, u64) {
         self.sizes_and_depths();
         match self.mode {
             Mode::Short => {
@@ -65,6 +67,7 @@ impl Run {
                 self.by_chance(100_000);
                 self.package(50_000);
                 self.largest();
+                self.made_up_walks(100_000);
             }
             Mode::Long => {
                 self.every_stream("every stream of up to 2 bytes", 0..=2, &SMALL);
@@ -73,13 +76,15 @@ impl Run {
                 self.by_chance(3_000_000);
                 self.package(500_000);
                 self.largest();
+                self.made_up_walks(3_000_000);
             }
             Mode::Valgrind => {
                 self.every_stream("every stream of up to 1 byte", 0..=1, &SMALL[..1]);
                 self.by_chance(3_000);
+                self.made_up_walks(3_000);
             }
         }
-        self.streams
+        (self.streams, self.checker.records)
     }
 
     fn every_stream(&mut self, name: &str, lengths: RangeInclusive<usize>, sizes: &Sizes) {
@@ -222,18 +227,8 @@ impl Run {
     fn package(&mut self, many: usize) {
         self.group("vectors of the package", |run| {
             for _ in 0..many {
-                let picture = match run.random.below(8) {
-                    0 => Picture {
-                        width: run.random.pick(&SIDES),
-                        height: run.random.pick(&[0, 1, 8193]),
-                        bpp: run.random.pick(&BPPS),
-                    },
-                    _ => picture(&mut run.random),
-                };
-                let stream = &match picture.len() {
-                    Some(_) => orders(&mut run.random, picture),
-                    None => bytes(&mut run.random),
-                };
+                let (picture, stream) = run.any_picture();
+                let stream = &stream;
                 let len = picture.len().unwrap_or(8);
                 let old_len = run.random.pick(&[0, len / 2, len, len + 9]);
                 run.hold(Case { stream, picture }, |checker, case| {
@@ -241,6 +236,41 @@ impl Run {
                 });
             }
         });
+    }
+
+    /// Walks that begin with numbers by chance. `rle.rs` has none, so their streams do not count.
+    fn made_up_walks(&mut self, many: usize) {
+        let before = self.checker.records;
+        for _ in 0..many {
+            let (picture, stream) = self.any_picture();
+            let stream = &stream;
+            let case = Case { stream, picture };
+            let walk = walks::made_up(&mut self.random, case);
+            self.stop_if_wrong(case, |checker, case| {
+                checker.records += walks::follow(case, walk)?.orders;
+                Ok(())
+            });
+        }
+        let records = self.checker.records - before;
+        println!("made-up walks: {many} walks, {records} records");
+    }
+
+    /// A picture, with a depth and sizes that may be refused, and a stream in a block of exactly
+    /// its length.
+    fn any_picture(&mut self) -> (Picture, Box<[u8]>) {
+        let picture = match self.random.below(8) {
+            0 => Picture {
+                width: self.random.pick(&SIDES),
+                height: self.random.pick(&[0, 1, 8193]),
+                bpp: self.random.pick(&BPPS),
+            },
+            _ => picture(&mut self.random),
+        };
+        let stream = match picture.len() {
+            Some(_) => orders(&mut self.random, picture),
+            None => bytes(&mut self.random),
+        };
+        (picture, stream.into())
     }
 
     fn group(&mut self, name: &str, body: impl FnOnce(&mut Self)) {
@@ -251,21 +281,29 @@ impl Run {
 
     fn check(&mut self, case: Case, effort: Effort) {
         if self.mode == Mode::Valgrind {
-            self.hold(case, |_, case| heap::check(case));
+            self.hold(case, |checker, case| {
+                checker.records += heap::check(case)?;
+                Ok(())
+            });
         } else {
             self.hold(case, |checker, case| checker.check(case, effort));
         }
     }
 
-    /// Ends the program with the smallest case found if this one fails.
-    fn hold(&mut self, case: Case, check: impl Fn(&mut Checker, Case) -> Result<(), String>) {
+    /// Counts a stream that is compared.
+    fn hold(&mut self, case: Case, check: impl Fn(&mut Checker, Case) -> Checked) {
         self.streams += 1;
+        self.stop_if_wrong(case, check);
+    }
+
+    /// Ends the program with the smallest case found if this one fails.
+    fn stop_if_wrong(&mut self, case: Case, check: impl Fn(&mut Checker, Case) -> Checked) {
         let Err(what) = check(&mut self.checker, case) else {
             return;
         };
         let mut failure = Failure::new(case, what);
         failure.shrink(&mut |case| check(&mut self.checker, case));
-        println!("the decoders differ:\n{}{}", failure.case(), failure.what);
+        println!("a difference:\n{}{}", failure.case(), failure.what);
         exit(1);
     }
 }

@@ -6,16 +6,24 @@ use crate::answer::refused;
 use crate::case::Case;
 use crate::library::{decode_in_new_block, Report};
 use crate::oracle;
+use crate::walks;
 
 /// What the oracle's target holds where nothing is painted.
 const OLD: u8 = oracle::OLD[0];
 
-pub fn check(case: Case) -> Result<(), String> {
+/// Returns how many records of orders were compared.
+pub fn check(case: Case) -> Result<u64, String> {
     let stream: Box<[u8]> = case.stream.into();
     let case = Case {
         stream: &stream,
         ..case
     };
+    targets(case)?;
+    let (report, _) = decode_in_new_block(case, case.picture.target_len());
+    walks::check(case, report)
+}
+
+fn targets(case: Case) -> Result<(), String> {
     let Some(len) = case.picture.len() else {
         let answer = oracle::decode(case, &mut Vec::new());
         return [0, 1, 64].into_iter().try_for_each(|given| {

@@ -3,6 +3,8 @@
 use crate::answer::{answer, Answer};
 use crate::case::{Case, Picture};
 use crate::ffi::nulambiro_decompress;
+use crate::ffi_orders::{nulambiro_next_order, nulambiro_order_record};
+use crate::records::{Record, Walk};
 
 /// The library's whole report.
 #[derive(Clone, Copy, Debug, PartialEq, Eq)]
@@ -60,6 +62,36 @@ unsafe fn call(case: Case, target: *mut u8, len: usize) -> Report {
         pixels,
         orders,
         unused,
+    }
+}
+
+/// The next order's record, and the walk behind it.
+pub fn next_order(case: Case, walk: Walk) -> (Record, Walk) {
+    let Picture { width, height, bpp } = case.picture;
+    let (src, src_len) = (case.stream.as_ptr(), case.stream.len());
+    // On the heap, and the record not initialized, as in `call`.
+    let mut walk = Box::new(walk);
+    let mut record = Box::<Record>::new_uninit();
+    let places = record.as_mut_ptr();
+    // SAFETY: the stream is a slice, walk and record have their eight places, and the three are
+    // apart. The library writes all places of the record.
+    unsafe {
+        nulambiro_next_order(src, src_len, width, height, bpp, &mut *walk, places);
+        (*record.assume_init(), *walk)
+    }
+}
+
+/// The record of order n.
+pub fn order_record(case: Case, n: usize) -> Record {
+    let Picture { width, height, bpp } = case.picture;
+    let (src, src_len) = (case.stream.as_ptr(), case.stream.len());
+    let mut record = Box::<Record>::new_uninit();
+    let places = record.as_mut_ptr();
+    // SAFETY: the stream is a slice, the record has its eight places, and the two are apart. The
+    // library writes all places.
+    unsafe {
+        nulambiro_order_record(src, src_len, width, height, bpp, n, places);
+        *record.assume_init()
     }
 }
 

@@ -1,4 +1,5 @@
-//! Runs the library beside the unchanged `rle.rs` and stops at the first difference.
+//! Runs the library beside the unchanged `rle.rs`, and the records of a stream's orders beside a
+//! plain reader; stops at the first difference.
 //!
 //! Arguments: short, long or valgrind, and a seed. The script `run` builds and calls it.
 #![deny(unsafe_code)]
@@ -6,10 +7,13 @@
 mod answer;
 mod case;
 mod check;
-// Of the package's C interface only the declaration is needed here.
+// Of the package's C interface only the declarations are needed here.
 #[allow(dead_code, unsafe_code)]
 #[path = "../rust/src/ffi.rs"]
 mod ffi;
+#[allow(dead_code, unsafe_code)]
+#[path = "../rust/src/ffi_orders.rs"]
+mod ffi_orders;
 mod groups;
 mod heap;
 mod lent;
@@ -19,9 +23,11 @@ mod limits;
 mod oracle;
 #[path = "../rust/tests/common/random.rs"]
 mod random;
+mod records;
 mod same;
 mod shrink;
 mod streams;
+mod walks;
 
 use groups::{Mode, Run};
 use std::env;
@@ -39,8 +45,8 @@ fn main() {
         usage();
     };
     println!("{} with seed {seed}", arguments[0]);
-    let streams = Run::new(mode, seed).all();
-    println!("total: {streams} streams, no difference");
+    let (streams, records) = Run::new(mode, seed).all();
+    println!("total: {streams} streams and {records} records of orders, no difference");
 }
 
 fn usage() -> ! {

@@ -8,6 +8,7 @@ mod answers;
 mod block;
 mod colors;
 mod encode;
+mod orders;
 mod same;
 
 use answers::{hex, Answer};
@@ -17,10 +18,11 @@ use std::process::exit;
 use std::{env, fs};
 
 /// The files of a folder, with what answers a case of each.
-const FILES: [(&str, fn(&Block) -> Answer); 4] = [
+const FILES: [(&str, fn(&Block) -> Answer); 5] = [
     ("02-expand", colors::expand),
     ("04-encode", encode::encode),
     ("05-look", colors::look),
+    ("06-record", orders::record),
     ("08-same", same::same),
 ];
 
