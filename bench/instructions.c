@@ -1,7 +1,7 @@
 /*
- * Counts the instructions that one order takes by the run writers and by the
- * plain loop, with callgrind: a stream of many equal orders less a stream of
- * half as many, divided by the difference.
+ * Counts the instructions that one order takes by the run writers, by the plain
+ * loop and in a walk without a target, with callgrind: a stream of many equal
+ * orders less a stream of half as many, divided by the difference.
  * The rows have 1024 pixels. `bench/run instructions` builds it, runs it under
  * valgrind and prints the table.
  */
@@ -80,14 +80,26 @@ static size_t by_run_writers(const uint8_t *src, size_t src_len, uint8_t *dst, s
   return report[NULAMBIRO_PIXELS];
 }
 
+/* Looks for an order that no stream has, so goes over all of them. */
+static size_t by_walk(const uint8_t *src, size_t src_len, uint8_t *dst, size_t dst_len,
+                      size_t width, size_t height, size_t bpp) {
+  uint64_t report[NULAMBIRO_REPORT_PLACES];
+  (void)dst, (void)dst_len;
+  nulambiro_order_record(src, src_len, width, height, bpp, SIZE_MAX, report);
+  return report[NULAMBIRO_RECORD_FOUND];
+}
+
+/* What goes over the orders, and whether it returns the pixels painted or 0. */
 typedef struct {
   const char *name;
   size_t (*decode)(const uint8_t *, size_t, uint8_t *, size_t, size_t, size_t, size_t);
+  int paints;
 } decoder;
 
 static const decoder DECODERS[] = {
-    {"run writers", by_run_writers},
-    {"plain loop", nulambiro_plain_decompress},
+    {"run writers", by_run_writers, 1},
+    {"plain loop", nulambiro_plain_decompress, 1},
+    {"walk", by_walk, 0},
 };
 
 /* How many pixels an order paints. */
@@ -114,6 +126,8 @@ static void count_orders(const decoder *by, const order *o, size_t n, size_t bpp
   CALLGRIND_TOGGLE_COLLECT;
   painted = by->decode(stream, length, target, sizeof target, width, height, bpp);
   CALLGRIND_TOGGLE_COLLECT;
+  if (!by->paints)
+    due = 0;
   if (painted != due) {
     fprintf(stderr, "%s, %s of %zu: %zu pixels for %zu\n", by->name, o->name, n, painted, due);
     exit(1);
@@ -143,7 +157,7 @@ int main(void) {
   for (later = 1; later >= 0; later--)
     for (b = 0; b < 3; b++)
       for (o = 0; o < sizeof ORDERS / sizeof ORDERS[0]; o++)
-        for (by = 0; by < 2; by++)
+        for (by = 0; by < sizeof DECODERS / sizeof DECODERS[0]; by++)
           count_lengths(&DECODERS[by], &ORDERS[o], DEPTHS[b], later);
   return 0;
 }
