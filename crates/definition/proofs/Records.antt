@@ -5,7 +5,7 @@ use mathlib.Core.List.{List, [], _∷_, map}
 use Prim.Native.Nat.{ℕ, zero, suc, _+_, _-_, _≤_, _<_, zero-le}
 use native.Mathlib.Nat.{add-zero, zero-add}
 use native.Mathlib.Omega.{arith}
-use lib.ListN.{length, getD, drop}
+use lib.ListN.{length, getD, drop, length-map}
 use Rattle.base.proofs.Tests.{apart}
 use Rattle.picture.specs.Sizes.{Refusal, Frame, Checked, refused, accepted, checked}
 use Rattle.definition.specs.Orders.{Kind, RunLength, runLength, refused, rowOf, lengthOf, Head, head, headed, headOf}
@@ -146,10 +146,6 @@ run-orders f k (ended s) = refl
 run-orders f k (paused s) = refl
 run-orders f k (Run.refused r s) = refl
 
-length-map : {A B : Type 0} (g : A → B) (xs : List A) → length (map g xs) ≡ length xs
-length-map g [] = refl
-length-map g (x ∷ xs) = ap suc (length-map g xs)
-
 -- as many as the report counts
 pub records-counted : (stream : List ℕ) (bpp w h : ℕ) → length (records stream bpp w h) ≡ result stream bpp w h .orders
 unfolding records result recordsIn ofChecked decode start
@@ -157,7 +153,7 @@ records-counted stream bpp w h = go (checked bpp w h)
   where
     go : (c : Checked) → length (recordsIn stream c) ≡ ofChecked stream c .orders
     go (Checked.refused r) = refl
-    go (accepted f k) = length-map (recordOf f) (ordersFrom f (length stream) (start f stream)) ∙ sym (run-orders f k (decode f stream) ∙ orders-counted f (length stream) (start f stream) ∙ zero-add _)
+    go (accepted f k) = length-map (ordersFrom f (length stream) (start f stream)) (recordOf f) ∙ sym (run-orders f k (decode f stream) ∙ orders-counted f (length stream) (start f stream) ∙ zero-add _)
 
 -- ---- one of them, by its number
 
