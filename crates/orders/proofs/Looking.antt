@@ -13,16 +13,13 @@ use Rattle.rle.specs.declared.walk.Found.the-variants as found
 use Rattle.rle.specs.Records.{recordIn}
 use Rattle.rle.specs.Report.{Decompresses}
 use Rattle.rle.specs.Guarantees.{HasSpace}
-use Rattle.rle.specs.Walks.{StandsFor, Finds, FindsIn, FindsOrder, startWalk}
+use Rattle.rle.specs.Walks.{Finds, FindsIn, FindsOrder, startWalk}
+use Rattle.rle.proofs.Finding.{start-stands}
 use Rattle.rle.proofs.Theorems.{with-space}
 use Rattle.orders.specs.declared.Recorded.{Recorded}
 use Rattle.orders.specs.Contracts.{recordedIn, CountsOrders}
 
 -- ---- from the stream's start
-
-start-stands : (f : Frame) (src : List ℕ) → StandsFor src startWalk (start f src)
-unfolding start
-start-stands f src = record { left = refl; pixels = refl; insert = refl; mark = refl }
 
 abbrev pub recordedBy : Found → Numbered Record
 recordedBy (found.Order r w) = order (recordIn r)

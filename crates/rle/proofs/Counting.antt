@@ -1,5 +1,5 @@
 -- Laws of a call without a target: refused before the stream, or walked to its end. Assumes nothing.
-use mathlib.Core.Path.{_≡_, refl, sym, _∙_}
+use mathlib.Core.Path.{_≡_, sym, _∙_}
 use mathlib.Core.List.{List}
 use Prim.Native.Nat.{ℕ, _*_, _≤_}
 use native.Mathlib.Nat.{zero-add}
@@ -21,9 +21,10 @@ use Rattle.definition.specs.Decode.{start, decode, resultOf, ofRun, ofChecked, 
 use Rattle.rle.specs.Report.{summaryIn}
 use Rattle.rle.specs.States.{frameOf}
 use Rattle.rle.specs.Walking.{endingBy, RunsOut, stopsAt, WalksOrders}
-use Rattle.rle.specs.Walks.{StandsFor, startWalk}
+use Rattle.rle.specs.Walks.{startWalk}
 use Rattle.rle.specs.Reporting.{summaryAfter, notDecoded}
 use Rattle.rle.proofs.Calls.{result-is}
+use Rattle.rle.proofs.Finding.{start-stands}
 
 pub counts-refused : (src : List ℕ) (bpp w h : ℕ) {r : Report} {e : RleError} → r ≡ notDecoded e → refused (refusalOf e) ≡ sizeOf (checked bpp w h)
     → summaryIn r ≡ summaryOf (result src bpp w h)
@@ -51,9 +52,8 @@ pub counts-walked : (bpp w h : ℕ) {n : ℕ} → bytes n ≡ sizeOf (checked bp
     → let f : CodeFrame = record { depth = d; width = w; total = w * h } in WalksOrders (frameOf f) src startWalk (w * h) x
     → (r : Report) → summaryIn r ≡ summaryAfter (endingBy (x .stop)) (d .format) (x .walk .pixels) (x .orders)
     → summaryIn r ≡ summaryOf (result src bpp w h)
-unfolding result ofChecked accept start
+unfolding result ofChecked accept
 counts-walked bpp w h {n} is {d} row src x walks r reports =
     let f : CodeFrame = record { depth = d; width = w; total = w * h } in
-    let stands : StandsFor src startWalk (start (frameOf f) src) = record { left = refl; pixels = refl; insert = refl; mark = refl } in
     rw (sized bpp w h n is .checks, ← row)
-    (counts-stopped f (d .format) src (x .stop) (x .walk) (x .orders) (walks .within) (walks .stops (start (frameOf f) src) stands) r reports)
+    (counts-stopped f (d .format) src (x .stop) (x .walk) (x .orders) (walks .within) (walks .stops (start (frameOf f) src) (start-stands (frameOf f) src)) r reports)

@@ -10,7 +10,7 @@ use Rattle.picture.specs.Outcomes.{depthIn}
 use Rattle.picture.proofs.Sizes.{sized, size-refused}
 use Rattle.picture.specs.Pixels.{pixelsOf}
 use Rattle.picture.proofs.Pixels.{length-pixelsOf}
-use Rattle.definition.specs.Decode.{State, state}
+use Rattle.definition.specs.Decode.{State, state, start}
 use Rattle.definition.specs.Records.{ordersFrom, nth}
 use Rattle.definition.proofs.Bounds.{Bytes, bytes-drop}
 use Rattle.definition.proofs.Records.{orders-without-room}
@@ -22,7 +22,7 @@ use Rattle.rle.specs.declared.walk.Stop.the-variants as stop
 use Rattle.rle.specs.declared.walk.Walked.{Walked}
 use Rattle.rle.specs.States.{frameOf}
 use Rattle.rle.specs.Walking.{foundBy, stopsAt, WalksOrders}
-use Rattle.rle.specs.Walks.{StandsFor, Finds, FindsOrder}
+use Rattle.rle.specs.Walks.{startWalk, StandsFor, Finds, FindsOrder}
 
 pub finds-refused : (src : List ℕ) (bpp w h n : ℕ) (from : Walk) {r : Refusal} → refused r ≡ sizeOf (checked bpp w h)
     → FindsOrder src bpp w h from n found.NoOrder
@@ -41,6 +41,11 @@ each-stands src w =
       state = state (drop (w .pos) src) (pixelsOf 1 (w .pixels) []) [] (w .insert) (w .«first_row») 0;
       stands = record { left = refl; pixels = length-pixelsOf 1 (w .pixels) []; insert = refl; mark = refl };
     }
+
+-- that of a stream's start stands for the state of the start
+pub start-stands : (f : Frame) (src : List ℕ) → StandsFor src startWalk (start f src)
+unfolding start
+start-stands f src = record { left = refl; pixels = refl; insert = refl; mark = refl }
 
 -- ---- what was found
 
