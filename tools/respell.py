@@ -5,7 +5,8 @@ usage: tools/respell.py [--list]
 
 Words are joined by an underscore, as in bytes_of and step_planned. A dash stays between two names of functions, as in length-paint. A lemma that
 would get the name of a definition is called so with _lem behind it. What is declared below proofs/F for a function F keeps its name, and so does
-every name of src/. --list prints the names and changes nothing; a second run changes nothing.
+every name of src/. A file specs/Contracts.antt becomes specs/Promises.antt, since Rattle makes a module of the former name. --list prints the names
+and changes nothing; a second run changes nothing.
 """
 import os
 import re
@@ -107,12 +108,34 @@ def turn_file(path, text, names):
     return text
 
 
+def move_contracts():
+    """Renames specs/Contracts.antt, and the paths that name it."""
+    crates = []
+    for path, full in files():
+        steps = path.split("/")
+        if steps[2:] == ["specs", "Contracts.antt"]:
+            crates.append(steps[1])
+            os.rename(full, os.path.join(os.path.dirname(full), "Promises.antt"))
+    if not crates:
+        return
+    path = re.compile(rf"Rattle\.({'|'.join(crates)})\.specs\.Contracts\b")
+    for name, full in files():
+        if os.path.splitext(name)[1] in (".antt", ".rt", ".edit", ".md"):
+            text = open(full).read()
+            to = path.sub(r"Rattle.\1.specs.Promises", text).replace("specs/Contracts.antt", "specs/Promises.antt")
+            if name.split("/")[2:] == ["specs", "Lib.antt"]:
+                to = re.sub(r"(?m)^pub mod Contracts$", "pub mod Promises", to)
+            if to != text:
+                open(full, "w").write(to)
+
+
 def main():
     names = table()
     if "--list" in sys.argv:
         for a, b in sorted(names.items()):
             print(a, b)
         return
+    move_contracts()
     for path, full in files():
         if os.path.splitext(path)[1] in (".antt", ".rt", ".edit", ".md"):
             text = open(full).read()
