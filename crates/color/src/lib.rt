@@ -1,6 +1,7 @@
 // Colors of decoded pictures: expansion of a pixel, palette look, same picture.
 //
 // What the functions promise is defined in specs/Colors.antt, Look.antt and SamePicture.antt.
+#![tactic(auto)]
 
 pub mod bytes;
 pub mod palette;

@@ -127,8 +127,8 @@ module _ (whole before : List ℕ) (fits : length whole ≤ length before) where
       room : Begun whole before now (bytes ++ to-come) at → at + length bytes ≤ length whole
       room b = omega (arith, b.within, length-drop at whole, ap length b.next, length-append bytes to-come)
 
-  pub begun-length : (now to-come : List ℕ) (at : ℕ) → Begun whole before now to-come at → length now ≡ length before
-  begun-length now to-come at b =
+  pub begun_length : (now to-come : List ℕ) (at : ℕ) → Begun whole before now to-come at → length now ≡ length before
+  begun_length now to-come at b =
       ap length b.is
       ∙ length-append (take at whole) (drop at before)
       ∙ rw (length-take-le at whole b.within, length-drop) (omega (arith, b.within))
@@ -137,7 +137,7 @@ module _ (whole before : List ℕ) (fits : length whole ≤ length before) where
   begun-room now bytes to-come at b =
       omega (
         arith,
-        begun-length now (bytes ++ to-come) at b,
+        begun_length now (bytes ++ to-come) at b,
         b.within,
         length-drop at whole,
         ap length b.next,
@@ -165,5 +165,5 @@ module _ (s : List ℕ) (f : Layout) (k : ℕ) (after : Bool) (o : Order) (is : 
   pub order-room : at + length bytes ≤ length now
   order-room = begun-room (stream_in f s) before fits now bytes later at begun_here
 
-  pub order-begun : (then : List ℕ) (r : ℕ) → Writes bytes now then at r → Begun (stream_in f s) before then later r
-  order-begun then r x = begun_more (stream_in f s) before fits now then bytes later at r begun_here x
+  pub order_begun : (then : List ℕ) (r : ℕ) → Writes bytes now then at r → Begun (stream_in f s) before then later r
+  order_begun then r x = begun_more (stream_in f s) before fits now then bytes later at r begun_here x

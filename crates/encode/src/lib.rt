@@ -1,4 +1,5 @@
 // Encoder of interleaved RLE bitmaps: pixels to stream, by the rule of the crate `encoding`.
+#![tactic(auto)]
 ghost use Rattle.std.specs.Prelude.{◌≡◌};
 ghost use Rattle.encoding.specs.Bound.{bound};
 ghost use Rattle.encode.specs.Promises.{Compresses};

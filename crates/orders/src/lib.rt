@@ -1,4 +1,5 @@
 // The records of a stream's completed orders: how each of them was written, without a target.
+#![tactic(auto)]
 ghost use Rattle.std.specs.Prelude.{◌≡◌};
 ghost use Rattle.definition.specs.Records.{records, nth};
 ghost use Rattle.rle.specs.Report.{Decompresses};

@@ -4,6 +4,7 @@
 // A record: width, height, bpp, then the stored report: format (0: none), refusal (0: none), its two values, pixels, orders, and the
 // checksum of the target, which is preset to 0x55 and as long as the picture (64 bytes where there is no picture); then the stream's
 // length and the stream. Each number is four bytes, low byte first.
+#![tactic(auto)]
 ghost use Rattle.std.specs.Prelude.{◌<◌, ◌≤◌, length};
 
 use base::widen;

@@ -46,8 +46,8 @@ module _ (f : CodeFrame) (s : CodeState) where
       ≡ record { foreground = s.foreground; pos = s.pos; insert = false; pixels = s.pixels; first_row = false; orders = s.orders }
   row_ends on h = rw (on, le-ltb s.pixels f.width h)
 
-  pub row-begun : (first_row_ended f s).first_row ≡ true → s.pixels < f.width
-  row-begun e = ltb-true s.pixels f.width (both_true s.first_row (ltb s.pixels f.width) e).1
+  pub row_begun : (first_row_ended f s).first_row ≡ true → s.pixels < f.width
+  row_begun e = ltb-true s.pixels f.width (both_true s.first_row (ltb s.pixels f.width) e).1
 
   -- the code's is the definition's
   pub mark-is : (src dst : List ℕ) → state_of (frame_of f) src dst (first_row_ended f s) ≡ end_first_row (frame_of f) (state_of (frame_of f) src dst s)
@@ -65,7 +65,7 @@ module _ (f : CodeFrame) (s : CodeState) where
 
 -- a second time it changes nothing
 pub row_again : (f : CodeFrame) (s : CodeState) → first_row_ended f (first_row_ended f s) ≡ first_row_ended f s
-row_again f s = row_stays f (first_row_ended f s) (row-begun f s)
+row_again f s = row_stays f (first_row_ended f s) (row_begun f s)
 
 -- an order begins with it, so it may have come before
 pub step_marked : (f : CodeFrame) (s : CodeState) (src dst : List ℕ)

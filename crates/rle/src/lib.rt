@@ -1,6 +1,7 @@
 // Decoder of interleaved RLE bitmaps (MS-RDPBCGR 2.2.9.1.1.3.1.2.4 and 3.1.9), a port of IronRDP's rle.rs.
 //
 // What a stream means is defined in the crate `definition`; what `decompress` promises of it, in specs/Report.antt.
+#![tactic(auto)]
 ghost use Rattle.std.specs.Prelude.{◌≡◌};
 ghost use Rattle.definition.specs.Decode.{result, summary_of};
 ghost use Rattle.rle.specs.Report.{summary_in, Decompresses};

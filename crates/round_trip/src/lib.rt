@@ -1,4 +1,5 @@
 // Encoding a picture and decoding its stream: that every picture comes back, as the contract of the two calls.
+#![tactic(auto)]
 ghost use Rattle.std.specs.Prelude.{◌≡◌, take};
 ghost use Rattle.rle.specs.Report.{Decompresses};
 ghost use Rattle.encode.specs.Promises.{Compresses, length_in};

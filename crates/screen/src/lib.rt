@@ -1,6 +1,7 @@
 // A row to show: a part of the new picture, or of the one on screen.
 //
 // What it is, is defined in specs/Rows.antt.
+#![tactic(auto)]
 ghost use Rattle.std.specs.Prelude.{◌≡◌};
 ghost use Rattle.screen.specs.Rows.{no_part, part_of, part_to_show, place_to_show, row_to_show};
 

@@ -1,4 +1,5 @@
 // Decoding one stream by both decoders: that they give the same, as the contract of two calls.
+#![tactic(auto)]
 ghost use Rattle.rle.specs.Guarantees.{SameDecoding};
 
 #[derive(Drop)]

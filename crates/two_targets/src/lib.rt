@@ -1,4 +1,5 @@
 // Decoding one stream into two targets: the guarantee that no old byte shows, as the contract of two calls of `decompress`.
+#![tactic(auto)]
 ghost use Rattle.rle.specs.Report.{Decompresses};
 ghost use Rattle.rle.specs.Guarantees.{HasSpace, NoOldByte};
 

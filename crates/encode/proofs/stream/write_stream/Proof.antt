@@ -5,7 +5,7 @@ use native.Mathlib.Omega.{arith}
 use Rattle.picture.proofs.Pixels.{length-pixels_of}
 use Rattle.encoding.proofs.Rest.{rest, rest_all, rest_end}
 use Rattle.encode.specs.Layouts.{pixels_in, stream_in}
-use Rattle.encode.proofs.Streams.{Begun, begun-length, begun_all, placed, order-room, order-begun}
+use Rattle.encode.proofs.Streams.{Begun, begun_length, begun_all, placed, order-room, order_begun}
 use Rattle.encode.proofs.stream.write_stream.Statement.{statement}
 use Rattle.encode.proofs.stream.write_stream.Tie as tie
 
@@ -58,7 +58,7 @@ loop-again c =
     let l = c.before.before.before.before.before.before.before.before.before.loop in
     let o = c.before.before.before.before.before.before.order-at in (
       (placed a.src.now a.f l.k l.after o.result p.0 o.ensures (omega arith)).ends,
-      order-begun a.src.now a.f l.k l.after o.result o.ensures (omega arith) a.dst.now l.dst l.at p.1
+      order_begun a.src.now a.f l.k l.after o.result o.ensures (omega arith) a.dst.now l.dst l.at p.1
           l.invariant.1 _ _ c.before.before.before.before.put_order.ensures,
     )
 
@@ -66,7 +66,7 @@ same_length : tie.Need-same-length invariant-loop decreases-loop
 same_length c =
     let a = c.before.before.before.before.before.args in
     let l = c.before.before.loop in
-    begun-length (stream_in a.f a.src.now) a.dst.now c.before.before.before.before.before.requires.1 l.dst _ l.at l.invariant.1
+    begun_length (stream_in a.f a.src.now) a.dst.now c.before.before.before.before.before.requires.1 l.dst _ l.at l.invariant.1
 
 returns : tie.Need-returns invariant-loop decreases-loop
 returns c =

@@ -7,7 +7,7 @@ use native.Mathlib.Nat.{le_refl}
 use native.Mathlib.Omega.{arith}
 use Rattle.rle.specs.States.{frame_of}
 use Rattle.rle.specs.Orders.{BetweenOrders}
-use Rattle.rle.proofs.FirstRow.{row-begun}
+use Rattle.rle.proofs.FirstRow.{row_begun}
 use Rattle.rle.proofs.Stream.{between_start, between_here, between_end, between_marked, decoded-refused, decoded_on}
 use borrow.Author.Rules.{rules}
 use Rattle.rle.proofs.decode.decompress_impl.Statement.{statement}
@@ -74,7 +74,7 @@ loop-again c =
     let inside = c.before.before.if1.false in
     let e = c.before.end-first-row.ensures in (
       rw e (between_marked f _ _ _ _ g.0 inside),
-      λ first. absurd (omega (arith, row-begun f t.orders-to.result.state (rw e at first), g.1 inside, l.loop.invariant.2)),
+      λ first. absurd (omega (arith, row_begun f t.orders-to.result.state (rw e at first), g.1 inside, l.loop.invariant.2)),
       omega (arith, g.0.invariant.within, g.1 inside, l.loop.invariant.2),
     )
 
