@@ -94,6 +94,9 @@ def turn_file(path, text, names):
     kind = os.path.splitext(path)[1]
     if kind in (".antt", ".rt"):
         names = {a: b for a, b in names.items() if a not in of_library(text)}
+        if kind == ".rt":
+            # A name that is spelled so already is a function's here.
+            names = {a: b for a, b in names.items() if re.search("[A-Z-]", a)}
         mark = "--" if kind == ".antt" else "//"
         lines = []
         for line in text.split("\n"):
@@ -102,7 +105,8 @@ def turn_file(path, text, names):
             lines.append(turn(code, names) + prose(comment, names))
         return "\n".join(lines)
     if kind == ".edit":
-        return turn(text, names)
+        code = re.search(r"(?m)^file: +src/", text)
+        return turn(text, {a: b for a, b in names.items() if not code or re.search("[A-Z-]", a)})
     if kind == ".md":
         return re.sub(r"`[^`\n]*`", lambda m: turn(m[0], names), text)
     return text

@@ -1,5 +1,6 @@
 // Runs of bytes in a target: specs/ has the definition, proofs/ its laws. `copy`, `fill`, `xor` and `mask` write them.
 #![tactic(auto)]
+
 ghost use Rattle.std.specs.Prelude.{◌≡◌, ◌*◌, leb};
 ghost use Rattle.byte_runs.specs.Runs.{both, is_depth};
 

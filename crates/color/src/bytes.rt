@@ -35,7 +35,7 @@ pub(crate) fn same_in_blocks(a: &[u8], b: &[u8], n: usize, block: usize) -> bool
 }
 
 // Whether the first n bytes are the same. The blocks are literals, which makes their loops faster.
-pub(crate) fn same_bytes_lem(a: &[u8], b: &[u8], n: usize) -> bool
+pub(crate) fn same_bytes(a: &[u8], b: &[u8], n: usize) -> bool
     requires { (n ≤ length a.now) × (n ≤ length b.now) }
     ensures { result ≡ same_bytes a.now b.now n }
 {

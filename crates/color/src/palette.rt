@@ -3,7 +3,7 @@ ghost use Rattle.std.specs.Prelude.{◌≡◌, ◌≤◌, ◌<◌, length};
 ghost use Rattle.color.specs.Colors.{entry, palette_fits, same_triple};
 ghost use Rattle.color.specs.Look.{lowest_index};
 
-#[derive(Drop)]
+#[derive(Clone, Copy)]
 pub enum Look {
     At(usize),
     Nothing,

@@ -8,14 +8,14 @@ use crate::palette::{entry_at, palette_fits};
 use base::widen;
 use picture::RleError;
 
-#[derive(Drop)]
+#[derive(Clone, Copy)]
 pub enum Expansion {
     Done,
     Refused(RleError),
 }
 
 // The triple is blue, green, red; zeros where refused. An enum can't hold an array, so it stands beside the enum.
-#[derive(Drop)]
+#[derive(Clone, Copy)]
 pub struct Expanded {
     pub outcome: Expansion,
     pub bgr: [u8; 3],

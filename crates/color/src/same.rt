@@ -8,7 +8,7 @@ use crate::palette::palette_fits;
 use picture::PictureSize;
 
 // A picture's numbers: `pixels` of its pixels are painted. Its bytes stand in a slice beside it.
-#[derive(Drop)]
+#[derive(Clone, Copy)]
 pub struct Shape {
     pub pixels: usize,
     pub width: usize,
@@ -68,5 +68,5 @@ pub fn same_picture(a: &[u8], p: Shape, b: &[u8], q: Shape, palette: &[u8]) -> b
     if !both_valid(a, b, p, palette) {
         return false;
     }
-    same_bytes_lem(a, b, p.pixels * picture::bytes_per_pixel(p.bpp))
+    same_bytes(a, b, p.pixels * picture::bytes_per_pixel(p.bpp))
 }

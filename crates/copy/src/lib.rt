@@ -1,5 +1,6 @@
 // Copies of bytes into a target, from a row back or from another slice: by blocks, each of which is read whole before it is written.
 #![tactic(auto)]
+
 ghost use Rattle.std.specs.Prelude.{◌≡◌, leb};
 ghost use Rattle.byte_runs.specs.Runs.{run_where, both, there, above, taken};
 

@@ -1,5 +1,6 @@
 // Encoder of interleaved RLE bitmaps: pixels to stream, by the rule of the crate `encoding`.
 #![tactic(auto)]
+
 ghost use Rattle.std.specs.Prelude.{◌≡◌};
 ghost use Rattle.encoding.specs.Bound.{bound};
 ghost use Rattle.encode.specs.Promises.{Compresses};
@@ -16,7 +17,7 @@ use stream::{stream_fits, write_stream};
 use stretch::Layout;
 
 // The stream's length, or why there is no stream.
-#[derive(Drop)]
+#[derive(Clone, Copy)]
 pub enum Compressed {
     Length(usize),
     Refused(RleError),

@@ -11,7 +11,7 @@ pub(crate) const COLOR_RUN: u8 = 3;
 
 pub(crate) const COLOR_IMAGE: u8 = 4;
 
-#[derive(Drop)]
+#[derive(Clone, Copy)]
 pub(crate) struct Order {
     pub(crate) kind: u8,
     pub(crate) pixels: usize,

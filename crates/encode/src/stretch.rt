@@ -10,7 +10,7 @@ use crate::bytes::{same_back, same_few};
 const MAX_RUN: usize = 65535;
 
 // Bytes of a pixel, pixels of a row, pixels of the picture.
-#[derive(Drop)]
+#[derive(Clone, Copy)]
 pub(crate) struct Layout {
     pub(crate) bytes: usize,
     pub(crate) width: usize,

@@ -1,5 +1,6 @@
 // Pixels of one color, or of two by turns, in a target.
 #![tactic(auto)]
+
 ghost use Rattle.std.specs.Prelude.{◌≡◌, [], ◌∷◌, ◌*◌};
 ghost use Rattle.byte_runs.specs.Runs.{run_where, pixels_there, bytes, turn, pair_of};
 

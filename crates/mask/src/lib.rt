@@ -1,6 +1,7 @@
 // Pixels by masks, the lowest bit first: where the bit is 1 the color a, b, c (the first d bytes of it), where it is 0 zeros; in the first
 // row as they are, later exclusive-or the bytes `row` places back.
 #![tactic(auto)]
+
 ghost use Rattle.std.specs.Prelude.{◌≡◌, [], ◌∷◌, ◌+◌, ◌*◌, ◌≤◌, ◌<◌, leb, length};
 ghost use Rattle.byte_runs.specs.Runs.{run, run_where, both, there, pixels_there, row_there, bytes, xored, masked_by, row_bytes};
 

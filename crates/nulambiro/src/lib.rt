@@ -1,5 +1,6 @@
 // The library for C: include/nulambiro.h declares these functions and says what they do.
 #![tactic(auto)]
+
 ghost use Rattle.std.specs.Prelude.{◌≡◌, length};
 ghost use Rattle.definition.specs.Decode.{result_in, summary_of};
 ghost use Rattle.rle.specs.Report.{summary_in};

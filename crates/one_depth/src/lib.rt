@@ -1,5 +1,6 @@
 // The functions of rle.rs for one depth each: `decompress` with the bits per pixel filled in.
 #![tactic(auto)]
+
 ghost use Rattle.rle.specs.Report.{Decompresses};
 
 pub fn decompress_24_bpp(src: &[u8], dst: &mut [u8], width: usize, height: usize) -> rle::Report

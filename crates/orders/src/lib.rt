@@ -1,5 +1,6 @@
 // The records of a stream's completed orders: how each of them was written, without a target.
 #![tactic(auto)]
+
 ghost use Rattle.std.specs.Prelude.{◌≡◌};
 ghost use Rattle.definition.specs.Records.{records, nth};
 ghost use Rattle.rle.specs.Report.{Decompresses};
@@ -9,13 +10,13 @@ ghost use Rattle.orders.specs.Promises.{recorded_in, CountsOrders};
 use rle::{Found, OrderRecord, Walk};
 
 // The record of an order, or that there is no such order.
-#[derive(Drop)]
+#[derive(Clone, Copy)]
 pub enum Recorded {
     Order(OrderRecord),
     NoOrder,
 }
 
-#[derive(Drop)]
+#[derive(Clone, Copy)]
 pub struct Decoded {
     pub report: rle::Report,
     pub recorded: Recorded,

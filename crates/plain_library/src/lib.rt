@@ -1,6 +1,7 @@
 // The plain decoder for C, as a library of its own: beside the other decoder's functions in one library it would change how those are
 // compiled. The bench times both.
 #![tactic(auto)]
+
 ghost use Rattle.std.specs.Prelude.{◌≡◌, ◌++◌, ◌*◌, length, drop};
 ghost use Rattle.picture.specs.Pixels.{bytes_of};
 ghost use Rattle.definition.specs.Decode.{result_in};

@@ -4,6 +4,7 @@
 //
 // What is printed is defined in specs/Text.antt and specs/Digits.antt, what each function promises in specs/Writes.antt.
 #![tactic(auto)]
+
 ghost use Rattle.std.specs.Prelude.{◌≡◌, [], ◌∷◌, ◌<◌};
 ghost use Rattle.print.specs.Text.{line};
 ghost use Rattle.print.specs.Digits.{hex_digit, decimal, hex_pairs, each_of};

@@ -5,12 +5,13 @@
 // checksum of the target, which is preset to 0x55 and as long as the picture (64 bytes where there is no picture); then the stream's
 // length and the stream. Each number is four bytes, low byte first.
 #![tactic(auto)]
+
 ghost use Rattle.std.specs.Prelude.{◌<◌, ◌≤◌, length};
 
 use base::widen;
 use libc::STDOUT_FILENO;
 
-#[derive(Drop)]
+#[derive(Clone, Copy)]
 struct Picture {
     width: usize,
     height: usize,
@@ -18,7 +19,7 @@ struct Picture {
 }
 
 // A report in numbers, with the target's checksum.
-#[derive(Drop)]
+#[derive(Clone, Copy)]
 struct Numbers {
     format: usize,
     refusal: usize,
@@ -29,7 +30,7 @@ struct Numbers {
     sum: usize,
 }
 
-#[derive(Drop)]
+#[derive(Clone, Copy)]
 struct Tally {
     streams: usize,
     differ: usize,

@@ -11,7 +11,7 @@ use buf::{Read, u8_from, u16_from};
 use picture::RleError;
 
 // A run length, where it stands, and the next place in the stream; or a refusal and the place where it came.
-#[derive(Drop)]
+#[derive(Clone, Copy)]
 pub(crate) enum RunLength {
     Of(usize, Place, usize),
     Refused(RleError, usize),
@@ -19,7 +19,7 @@ pub(crate) enum RunLength {
 
 // The header byte of an order, where its run length stands, the number of its kind, the run length, and the place of its operands in the
 // stream.
-#[derive(Drop)]
+#[derive(Clone, Copy)]
 pub(crate) struct OrderHead {
     pub(crate) header: usize,
     pub(crate) place: Place,
@@ -29,7 +29,7 @@ pub(crate) struct OrderHead {
 }
 
 // The stream's end; or the start of an order; or a refusal and the place where it came.
-#[derive(Drop)]
+#[derive(Clone, Copy)]
 pub(crate) enum Head {
     End,
     Order(OrderHead),

@@ -2,6 +2,7 @@
 //
 // What a stream means is defined in the crate `definition`; what `decompress` promises of it, in specs/Report.antt.
 #![tactic(auto)]
+
 ghost use Rattle.std.specs.Prelude.{◌≡◌};
 ghost use Rattle.definition.specs.Decode.{result, summary_of};
 ghost use Rattle.rle.specs.Report.{summary_in, Decompresses};

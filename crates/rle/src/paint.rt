@@ -15,7 +15,7 @@ use fill::{fill, fill_pairs};
 use mask::{mask_part, masks};
 use xor::xor_back;
 
-#[derive(Drop)]
+#[derive(Clone, Copy)]
 pub(crate) enum Mode {
     Solid,
     Above,
@@ -23,7 +23,7 @@ pub(crate) enum Mode {
 }
 
 // What a pixel is painted with: a color, the pixel above, or the pixel above exclusive-or a color.
-#[derive(Drop)]
+#[derive(Clone, Copy)]
 pub(crate) struct Ink {
     pub(crate) mode: Mode,
     pub(crate) pixel: [u8; 3],

@@ -12,14 +12,14 @@ ghost use Rattle.rle.specs.Planning.{counts_in};
 use picture::RleError;
 
 // How an order, or a whole stream, ends.
-#[derive(Drop)]
+#[derive(Clone, Copy)]
 pub(crate) enum Ending {
     Complete,
     Refused(RleError),
 }
 
 // Bytes to read behind the run length, pixels to paint, and how the order ends then.
-#[derive(Drop)]
+#[derive(Clone, Copy)]
 pub(crate) struct Plan {
     pub(crate) read: usize,
     pub(crate) pixels: usize,
@@ -139,7 +139,7 @@ pub(crate) fn at_most_8(n: usize) -> usize
 }
 
 // The first mask of an fg/bg image that the picture has no room for: room / 8 masks have theirs.
-pub(crate) fn no_room_lem(d: usize, room: usize, n: usize, read: usize) -> Plan
+pub(crate) fn no_room(d: usize, room: usize, n: usize, read: usize) -> Plan
     requires { (d ≤ 3) × (room < n) × (n ≤ 65536) × (read ≤ 3) }
     ensures { counts_in result ≡ plan.behind read (plan.no_room d n room) }
 {
@@ -168,7 +168,7 @@ pub(crate) fn cut_image(d: usize, room: usize, n: usize, left: usize, read: usiz
     if left <= room / 8 {
         return no_mask(left, read);
     }
-    no_room_lem(d, room, n, read)
+    no_room(d, room, n, read)
 }
 
 // Whether an fg/bg image goes through.

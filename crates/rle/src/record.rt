@@ -6,7 +6,7 @@ ghost use Rattle.rle.specs.Walking.{record_at};
 use crate::head::OrderHead;
 
 // Where an order's run length stands: nowhere (its kind has just one), in the header, in the byte after it, or in two.
-#[derive(Drop)]
+#[derive(Clone, Copy)]
 pub enum Place {
     Nowhere,
     InHeader,
@@ -16,7 +16,7 @@ pub enum Place {
 
 // The header byte; where the run length stands; the kind, by its number in the table of header.rt; the run length; the pixels
 // painted; whether the order began in the first row; whether its first pixel is an inserted foreground pixel.
-#[derive(Drop)]
+#[derive(Clone, Copy)]
 pub struct OrderRecord {
     pub header: usize,
     pub place: Place,

@@ -9,7 +9,7 @@ use crate::plan::Ending;
 use picture::{Outcome, RleError, RlePixelFormat};
 
 // The format or the refusal, the pixels painted, and the orders completed.
-#[derive(Drop)]
+#[derive(Clone, Copy)]
 pub struct Report {
     pub outcome: Outcome,
     pub pixels: usize,

@@ -9,7 +9,7 @@ use crate::plan::{Ending, Plan};
 use picture::{Depth, RleError};
 
 // What a picture's orders go by: its depth, its width, and its pixels.
-#[derive(Drop)]
+#[derive(Clone, Copy)]
 pub(crate) struct Frame {
     pub(crate) depth: Depth,
     pub(crate) width: usize,
@@ -19,7 +19,7 @@ pub(crate) struct Frame {
 // Where decoding stands between orders: the foreground, the place in the stream, whether an insert is pending, the pixels painted,
 // the first-row mark, the orders completed. No two fields of one byte stand side by side: the compiler would pack them into one
 // register and take them apart at every order.
-#[derive(Drop)]
+#[derive(Clone, Copy)]
 pub(crate) struct State {
     pub(crate) foreground: [u8; 3],
     pub(crate) pos: usize,
@@ -29,7 +29,7 @@ pub(crate) struct State {
     pub(crate) orders: usize,
 }
 
-#[derive(Drop)]
+#[derive(Clone, Copy)]
 pub(crate) struct Stepped {
     pub(crate) ending: Ending,
     pub(crate) state: State,

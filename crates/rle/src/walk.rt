@@ -20,7 +20,7 @@ use picture::RleError;
 
 // Where a walk stands between two orders: the place in the stream, the pixels painted, whether an insert is pending, the first-row
 // mark.
-#[derive(Drop)]
+#[derive(Clone, Copy)]
 pub struct Walk {
     pub pos: usize,
     pub pixels: usize,
@@ -29,14 +29,14 @@ pub struct Walk {
 }
 
 // The order that was looked for, with the walk behind it; or none, since fewer are completed.
-#[derive(Drop)]
+#[derive(Clone, Copy)]
 pub enum Found {
     Order(OrderRecord, Walk),
     NoOrder,
 }
 
 // How a walk stops: at the stream's end, at a refusal, or behind the order that was looked for.
-#[derive(Drop)]
+#[derive(Clone, Copy)]
 pub(crate) enum Stop {
     End,
     Refused(RleError),
@@ -45,7 +45,7 @@ pub(crate) enum Stop {
 
 // How a walk stopped, and where, with the orders that were completed on the way. A refusal leaves it at the refused order, with the
 // pixels that were painted by then.
-#[derive(Drop)]
+#[derive(Clone, Copy)]
 pub(crate) struct Walked {
     pub(crate) stop: Stop,
     pub(crate) walk: Walk,

@@ -1,5 +1,6 @@
 // Encoding a picture and decoding its stream: that every picture comes back, as the contract of the two calls.
 #![tactic(auto)]
+
 ghost use Rattle.std.specs.Prelude.{◌≡◌, take};
 ghost use Rattle.rle.specs.Report.{Decompresses};
 ghost use Rattle.encode.specs.Promises.{Compresses, length_in};
@@ -7,7 +8,7 @@ ghost use Rattle.round_trip.specs.Guarantee.{RoundTrip};
 
 use encode::Compressed;
 
-#[derive(Drop)]
+#[derive(Clone, Copy)]
 pub struct Trip {
     pub answer: Compressed,
     pub report: rle::Report,

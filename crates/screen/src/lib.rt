@@ -2,13 +2,14 @@
 //
 // What it is, is defined in specs/Rows.antt.
 #![tactic(auto)]
+
 ghost use Rattle.std.specs.Prelude.{◌≡◌};
 ghost use Rattle.screen.specs.Rows.{no_part, part_of, part_to_show, place_to_show, row_to_show};
 
 use picture::PictureSize;
 
 // A part of the new picture or of the one on screen, in bytes.
-#[derive(Drop)]
+#[derive(Clone, Copy)]
 pub struct Part {
     pub on_screen: bool,
     pub start: usize,

@@ -1,6 +1,7 @@
 // Reads a tile text from standard input to its end, and writes the answer to standard output. Where it can't read or write, it says
 // so on standard error.
 #![tactic(auto)]
+
 ghost use Rattle.std.specs.Prelude.{◌≤◌};
 ghost use Rattle.tile_text.specs.Parse.{start};
 ghost use Rattle.tile.specs.Input.{ReadFrom};

@@ -3,6 +3,7 @@
 // What a tile text is and what is answered is defined in specs/Text.antt and specs/Answer.antt; that the functions here give that
 // answer to every text is `chunks_answered` in proofs/Inverse.antt.
 #![tactic(auto)]
+
 pub mod answer;
 pub(crate) mod lines;
 pub mod parser;

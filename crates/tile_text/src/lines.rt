@@ -7,7 +7,7 @@ ghost use Rattle.tile_text.specs.Promises.{field_lines};
 use print::{put_byte, put_bytes, put_number, put_pairs};
 
 // The values of the lines; of the painted bytes, how many.
-#[derive(Drop)]
+#[derive(Clone, Copy)]
 pub(crate) struct Fields {
     pub format: usize,
     pub refusal: usize,

@@ -7,7 +7,7 @@ use base::widen;
 // The line being read, 0 to 3, or `WHOLE` or `BAD`, and the place in its key.
 // After the key: whether a digit is read, and the value of the digits. Then the numbers of the lines
 // that are read, and the stream's bytes so far, counted up to 8,193.
-#[derive(Drop)]
+#[derive(Clone, Copy)]
 pub struct Parser {
     pub line: usize,
     pub place: usize,

@@ -1,8 +1,9 @@
 // Decoding one stream by both decoders: that they give the same, as the contract of two calls.
 #![tactic(auto)]
+
 ghost use Rattle.rle.specs.Guarantees.{SameDecoding};
 
-#[derive(Drop)]
+#[derive(Clone, Copy)]
 pub struct Reports {
     pub fast: rle::Report,
     pub plain: rle::Report,

@@ -1,9 +1,10 @@
 // Decoding one stream into two targets: the guarantee that no old byte shows, as the contract of two calls of `decompress`.
 #![tactic(auto)]
+
 ghost use Rattle.rle.specs.Report.{Decompresses};
 ghost use Rattle.rle.specs.Guarantees.{HasSpace, NoOldByte};
 
-#[derive(Drop)]
+#[derive(Clone, Copy)]
 pub struct Reports {
     pub first: rle::Report,
     pub second: rle::Report,

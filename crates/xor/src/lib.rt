@@ -1,5 +1,6 @@
 // Pixels exclusive-or the pixels a row back: long runs by blocks of 48 bytes, which hold whole pixels of one, two and three bytes.
 #![tactic(auto)]
+
 ghost use Rattle.std.specs.Prelude.{◌≡◌, [], ◌∷◌, ℕ, ◌+◌, ◌*◌, ◌%◌, ◌≤◌, ◌<◌, min, leb, length, get_or};
 ghost use Rattle.std.specs.Int.Bits.{bit_xor};
 ghost use Rattle.byte_runs.specs.Runs.{run, run_where, both, pixels_there, listed, xored, mixed, turn, each};

@@ -1,0 +1,21 @@
+-- `load16` meets its contract: the array is filled in order. Assumes nothing.
+use mathlib.Core.Path.{◌≡◌}
+use Prim.Native.Nat.{ℕ, ◌+◌, ◌-◌, ◌≤◌, ◌<◌}
+use native.Mathlib.Omega.{arith}
+use native.Mathlib.Nat.{not-suc-le-zero}
+use lib.ListN.{length, get_or}
+use borrow.Author.Rules.{rules}
+use Rattle.byte_runs.proofs.Arrays.{filled_more}
+use Rattle.copy.proofs.block.load16.Goals as goal
+
+pub loop-i-init : goal.loop-i-init
+loop-i-init c = (search rules, search rules, λ k h. absurd (not-suc-le-zero h))
+
+pub loop-i-preserved : goal.loop-i-preserved
+loop-i-preserved c =
+    let l = c.loop-i in
+    let a = c.args in
+    (search rules, search rules, filled_more (λ (k : ℕ). get_or a.src.now (a.from + k) 0) l.t l.i (omega arith) l.invariant.2)
+
+pub returns : goal.returns
+returns c = λ k h. c.loop-i.invariant.2 k (omega arith)

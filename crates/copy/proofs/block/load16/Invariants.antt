@@ -1,0 +1,15 @@
+-- `load16` meets its contract: the array is filled in order. Assumes nothing.
+use mathlib.Core.Path.{◌≡◌}
+use Prim.Native.Nat.{ℕ, ◌+◌, ◌-◌, ◌≤◌, ◌<◌}
+use native.Mathlib.Omega.{arith}
+use native.Mathlib.Nat.{not-suc-le-zero}
+use lib.ListN.{length, get_or}
+use borrow.Author.Rules.{rules}
+use Rattle.byte_runs.proofs.Arrays.{filled_more}
+use Rattle.copy.proofs.block.load16.Given as goal
+
+abbrev pub invariant-loop-i : goal.invariant-loop-i
+invariant-loop-i l = (l.i ≤ 16) × (length l.t ≡ 16) × ((k : ℕ) → k < l.i → get_or l.t k 0 ≡ get_or l.src (l.from + k) 0)
+
+abbrev pub decreases-loop-i : goal.decreases-loop-i
+decreases-loop-i l = 16 - l.i

@@ -1,0 +1,15 @@
+-- `load8` meets its contract: the array is filled in order. Assumes nothing.
+use mathlib.Core.Path.{◌≡◌}
+use Prim.Native.Nat.{ℕ, ◌+◌, ◌-◌, ◌≤◌, ◌<◌}
+use native.Mathlib.Omega.{arith}
+use native.Mathlib.Nat.{not-suc-le-zero}
+use lib.ListN.{length, get_or}
+use borrow.Author.Rules.{rules}
+use Rattle.byte_runs.proofs.Arrays.{filled_more}
+use Rattle.copy.proofs.block.load8.Given as goal
+
+abbrev pub invariant-loop-i : goal.invariant-loop-i
+invariant-loop-i l = (l.i ≤ 8) × (length l.t ≡ 8) × ((k : ℕ) → k < l.i → get_or l.t k 0 ≡ get_or l.src (l.from + k) 0)
+
+abbrev pub decreases-loop-i : goal.decreases-loop-i
+decreases-loop-i l = 8 - l.i

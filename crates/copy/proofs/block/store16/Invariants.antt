@@ -1,0 +1,14 @@
+-- `store16` meets its contract: each store is one byte more of the run. Assumes nothing.
+use mathlib.Core.Path.{◌≡◌, refl}
+use Prim.Native.Nat.{◌-◌, ◌≤◌}
+use lib.ListN.{length}
+use borrow.Author.Rules.{rules}
+use Rattle.byte_runs.specs.Runs.{run, listed}
+use Rattle.byte_runs.proofs.Runs.{run_more, run_end}
+use Rattle.copy.proofs.block.store16.Given as goal
+
+abbrev pub invariant-loop-j : goal.invariant-loop-j
+invariant-loop-j l = (l.j ≤ 16) × (length l.dst ≡ length l.initial.dst) × (l.dst ≡ run (listed l.t) l.to l.j l.initial.dst)
+
+abbrev pub decreases-loop-j : goal.decreases-loop-j
+decreases-loop-j l = 16 - l.j

@@ -1,0 +1,13 @@
+-- `in4` meets its contract: the loaded array, stored, is a run of what was loaded. Assumes nothing.
+use mathlib.Core.Path.{◌∙◌}
+use Prim.Native.Nat.{ℕ, ◌+◌}
+use lib.ListN.{get_or}
+use borrow.Author.Rules.{rules}
+use Rattle.byte_runs.proofs.Arrays.{stored}
+use Rattle.copy.proofs.stream.in4.Goals as goal
+
+pub returns : goal.returns
+returns c =
+    let a = c.args in
+    c.store4.ensures
+    ∙ stored (λ (k : ℕ). get_or a.src.now (a.from + k) 0) c.load4-t.result a.to 4 a.dst.now c.load4-t.ensures

@@ -1,0 +1,16 @@
+-- `mixed8` meets its contract: i bytes are mixed. Assumes nothing.
+use mathlib.Core.Path.{◌≡◌}
+use Prim.Native.Nat.{ℕ, ◌≤◌, ◌<◌, ◌+◌, ◌-◌}
+use native.Mathlib.Omega.{arith}
+use native.Mathlib.Nat.{not-suc-le-zero}
+use lib.ListN.{length, get_or}
+use borrow.Author.Rules.{rules}
+use lib.Bits.{bit_xor}
+use Rattle.byte_runs.proofs.Arrays.{filled_more}
+use Rattle.mask.proofs.one.mixed8.Given as goal
+
+abbrev pub invariant-loop-i : goal.invariant-loop-i
+invariant-loop-i l = (l.i ≤ 8) × (length l.t ≡ 8) × ((k : ℕ) → k < l.i → get_or l.t k 0 ≡ bit_xor (get_or l.src (l.from + k) 0) (get_or l.w k 0))
+
+abbrev pub decreases-loop-i : goal.decreases-loop-i
+decreases-loop-i l = 8 - l.i

@@ -1,0 +1,18 @@
+-- `later2` meets its contract: i masks are written. Assumes nothing.
+use mathlib.Core.Path.{◌≡◌, refl}
+use mathlib.Core.List.{[], ◌∷◌}
+use Prim.Native.Nat.{◌≤◌, ◌*◌, ◌-◌}
+use native.Mathlib.Omega.{arith}
+use lib.ListN.{length}
+use borrow.Author.Rules.{rules}
+use Rattle.byte_runs.specs.Runs.{run, xored, masked_by}
+use Rattle.byte_runs.proofs.Blocks.{mixed_block}
+use Rattle.byte_runs.proofs.Masks.{mask_at2}
+use Rattle.byte_runs.proofs.Runs.{run_end}
+use Rattle.mask.proofs.two.later2.Given as goal
+
+abbrev pub invariant-loop-i : goal.invariant-loop-i
+invariant-loop-i l = (l.i ≤ l.m) × (length l.dst ≡ length l.initial.dst) × (l.dst ≡ run (xored l.at l.row (masked_by l.src l.pos 2 (l.a ∷ l.b ∷ l.c ∷ []))) l.at (l.i * 16) l.initial.dst)
+
+abbrev pub decreases-loop-i : goal.decreases-loop-i
+decreases-loop-i l = l.m - l.i

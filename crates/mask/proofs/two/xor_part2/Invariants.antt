@@ -1,0 +1,19 @@
+-- `xor_part2` meets its contract: i pixels are written, and m is the mask halved i times. Assumes nothing.
+use mathlib.Core.Path.{◌≡◌, refl}
+use mathlib.Core.List.{[], ◌∷◌}
+use Prim.Native.Nat.{◌≤◌, ◌+◌, ◌*◌, ◌-◌, ◌/◌, ◌^◌}
+use native.Mathlib.Omega.{arith}
+use lib.ListN.{length, length-set, get_or}
+use borrow.Author.Rules.{rules}
+use Rattle.byte_runs.specs.Runs.{run, xored, masked_by}
+use Rattle.byte_runs.proofs.Masks.{half, part_byte, whole}
+use Rattle.byte_runs.proofs.Pixels.{turn_2, xored_2}
+use Rattle.byte_runs.proofs.Runs.{run_end}
+use Rattle.mask.proofs.two.xor_part2.Given as goal
+
+abbrev pub invariant-loop-i : goal.invariant-loop-i
+invariant-loop-i l =
+    (l.i ≤ l.n) × (length l.dst ≡ length l.initial.dst) × (l.m ≡ get_or l.src l.pos 0 / 2 ^ l.i) × (l.dst ≡ run (xored l.at l.row (masked_by l.src l.pos 2 (l.a ∷ l.b ∷ l.c ∷ []))) l.at (l.i * 2) l.initial.dst)
+
+abbrev pub decreases-loop-i : goal.decreases-loop-i
+decreases-loop-i l = l.n - l.i

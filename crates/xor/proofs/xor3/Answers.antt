@@ -1,0 +1,40 @@
+-- `xor3` meets its contract: i pixels are written. Assumes nothing.
+use mathlib.Core.Path.{◌≡◌, refl}
+use mathlib.Core.List.{[], ◌∷◌}
+use Prim.Native.Nat.{◌≤◌, ◌*◌, ◌-◌}
+use native.Mathlib.Omega.{arith}
+use lib.ListN.{length, length-set}
+use borrow.Author.Rules.{rules}
+use Rattle.byte_runs.specs.Runs.{run, xored, turn}
+use Rattle.byte_runs.proofs.Pixels.{turn_3, xored_3}
+use Rattle.byte_runs.proofs.Runs.{run_end}
+use Rattle.xor.proofs.xor3.Goals as goal
+
+pub loop-i-init : goal.loop-i-init
+unfolding run
+loop-i-init c = (search rules, refl, refl)
+
+pub bounds-dst-from-in-loop-i : goal.bounds-dst-from-in-loop-i
+bounds-dst-from-in-loop-i c = simp length-set (omega arith)
+
+pub bounds-dst-at-in-loop-i : goal.bounds-dst-at-in-loop-i
+bounds-dst-at-in-loop-i c = simp length-set (omega arith)
+
+pub bounds-dst-from-in-loop-i-2 : goal.bounds-dst-from-in-loop-i-2
+bounds-dst-from-in-loop-i-2 c = simp length-set (omega arith)
+
+pub bounds-dst-at-in-loop-i-2 : goal.bounds-dst-at-in-loop-i-2
+bounds-dst-at-in-loop-i-2 c = simp length-set (omega arith)
+
+pub loop-i-preserved : goal.loop-i-preserved
+loop-i-preserved c =
+    let a = c.args in
+    let l = c.loop-i in
+    let px = turn_3 a.a a.b a.c l.i in (
+      search rules,
+      simp length-set (omega arith),
+      xored_3 (turn (a.a ∷ a.b ∷ a.c ∷ []) 3) a.at a.row l.i a.a a.b a.c l.dst a.dst.now (omega arith) px.0 px.1 px.2 l.invariant.2,
+    )
+
+pub returns : goal.returns
+returns c = run_end _ _ _ _ _ _ c.loop-i.invariant.2 (omega arith) (omega arith)
