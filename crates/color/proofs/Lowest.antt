@@ -14,7 +14,7 @@ use Rattle.picture.proofs.Pixels.{length-first_pixel}
 use Rattle.color.specs.declared.palette.Look.{Look}
 use Rattle.color.specs.declared.palette.Look.TheVariants.{At, Nothing}
 use Rattle.color.specs.Colors.{Triple, same_triple, entry}
-use Rattle.color.specs.Look.{Matches, Looked, lowest_from, lowest_index}
+use Rattle.color.specs.Look.{Looked, lowest_from, lowest_index}
 use Rattle.color.proofs.Triples.{same-equal, equal-same}
 
 -- ---- a palette whose entries repeat, by computing
