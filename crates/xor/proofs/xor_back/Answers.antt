@@ -20,12 +20,12 @@ pub returns-then-not-pixels_fit : goal.returns-then-not-pixels_fit
 returns-then-not-pixels_fit c =
     let a = c.args in
     where_fails _ _ _ _ _
-    (second_fails (leb a.row a.at) _ (fit_told a.d a.at a.n a.dst.now (omega arith) c.pixels_fit.ensures (not-true _ c.if-not-pixels_fit.true)))
+    (second_fails (leb a.row a.at) _ (fit_told a.d a.at a.n a.dst.now (omega arith) c.pixels_fit.ensures c.if-not-pixels_fit.true))
 
 pub xor1-requires : goal.xor1-requires
 xor1-requires c =
     let a = c.args in
-    let fit = fit_told a.d a.at a.n a.dst.now (omega arith) c.pixels_fit.ensures (not-false _ c.if-not-pixels_fit.false) in (
+    let fit = fit_told a.d a.at a.n a.dst.now (omega arith) c.pixels_fit.ensures c.if-not-pixels_fit.false in (
       fits-depth a.d 1 a.at a.n a.n (length a.dst.now) c.if-d-eq1.true (omega arith) (pixels_bounds a.d a.at a.n a.dst.now fit).2,
       omega arith,
     )
@@ -33,19 +33,19 @@ xor1-requires c =
 pub returns-then-d-eq1 : goal.returns-then-d-eq1
 returns-then-d-eq1 c =
     let a = c.args in
-    let fit = fit_told a.d a.at a.n a.dst.now (omega arith) c.pixels_fit.ensures (not-false _ c.if-not-pixels_fit.false) in
+    let fit = fit_told a.d a.at a.n a.dst.now (omega arith) c.pixels_fit.ensures c.if-not-pixels_fit.false in
     where_holds _ _ _ _ _ (both_hold _ _ (le-leb a.row a.at (omega arith)) fit)
     (rw (c.if-d-eq1.true, mul-one) c.xor1.ensures)
 
 pub xor_wide-requires : goal.xor_wide-requires
 xor_wide-requires c =
     let a = c.args in
-    let fit = fit_told a.d a.at a.n a.dst.now (omega arith) c.pixels_fit.ensures (not-false _ c.if-not-pixels_fit.false) in
+    let fit = fit_told a.d a.at a.n a.dst.now (omega arith) c.pixels_fit.ensures c.if-not-pixels_fit.false in
     let b = pixels_bounds a.d a.at a.n a.dst.now fit in
     (omega (arith, c.if-d-eq1.false), b.1, b.2, omega arith)
 
 pub returns : goal.returns
 returns c =
     let a = c.args in
-    let fit = fit_told a.d a.at a.n a.dst.now (omega arith) c.pixels_fit.ensures (not-false _ c.if-not-pixels_fit.false) in
+    let fit = fit_told a.d a.at a.n a.dst.now (omega arith) c.pixels_fit.ensures c.if-not-pixels_fit.false in
     where_holds _ _ _ _ _ (both_hold _ _ (le-leb a.row a.at (omega arith)) fit) c.xor_wide.ensures

@@ -10,13 +10,11 @@ use Rattle.xor.proofs.xor_blocks.Goals as goal
 
 pub xor_pattern-requires : goal.xor_pattern-requires
 xor_pattern-requires c =
-    let t = c.pattern2-t in (
-      search rules,
-      (
-        (omega arith, (refl, subst (λ (d : ℕ). c.args.len % d ≡ 0) c.if-d-eq2.true c.requires.1.1.1)),
-        turn_own (c.args.a ∷ c.args.b ∷ c.args.c ∷ []) t.result 2 (omega arith) (omega arith) t.ensures,
-      ),
-    )
+    let t = c.pattern2-t in record {
+      len_in_bounds = search rules;
+      le_d = (omega arith, (refl, subst (λ (d : ℕ). c.args.len % d ≡ 0) c.if-d-eq2.true c.requires.le_d.1.1));
+      by_index = turn_own (c.args.a ∷ c.args.b ∷ c.args.c ∷ []) t.result 2 (omega arith) (omega arith) t.ensures;
+    }
 
 pub returns-then-d-eq2 : goal.returns-then-d-eq2
 returns-then-d-eq2 c =
@@ -30,13 +28,11 @@ returns-then-d-eq2 c =
 pub xor_pattern-requires-2 : goal.xor_pattern-requires-2
 xor_pattern-requires-2 c =
     let t = c.pattern3-t in
-    let three : c.args.d ≡ 3 = omega arith in (
-      search rules,
-      (
-        (omega arith, (refl, subst (λ (d : ℕ). c.args.len % d ≡ 0) three c.requires.1.1.1)),
-        turn_own (c.args.a ∷ c.args.b ∷ c.args.c ∷ []) t.result 3 (omega arith) (omega arith) t.ensures,
-      ),
-    )
+    let three : c.args.d ≡ 3 = omega arith in record {
+      len_in_bounds = search rules;
+      le_d = (omega arith, (refl, subst (λ (d : ℕ). c.args.len % d ≡ 0) three c.requires.le_d.1.1));
+      by_index = turn_own (c.args.a ∷ c.args.b ∷ c.args.c ∷ []) t.result 3 (omega arith) (omega arith) t.ensures;
+    }
 
 pub returns : goal.returns
 returns c =

@@ -21,7 +21,7 @@ loop-i-preserved c =
       search rules,
       search rules,
       pattern_block c.args.w.now c.args.d c.args.at c.args.row l.i c.args.len _ _ _ _
-          f.ensures (omega arith) (omega arith) (omega arith) (omega arith) (omega arith) (omega arith) (omega arith) l.invariant.0 (λ k h. c.requires.1.1 k h)
+          f.ensures (omega arith) (omega arith) (omega arith) (omega arith) (omega arith) (omega arith) (omega arith) l.invariant.0 (λ k h. c.requires.by_index k h)
           c.xor48.ensures l.invariant.3,
     )
 

@@ -6,4 +6,4 @@ use Rattle.xor.proofs.xor_wide.Goals as goal
 
 pub xor_blocks-requires : goal.xor_blocks-requires
 xor_blocks-requires c =
-    (search rules, (omega arith, (omega arith, mul-mod_left c.args.n c.args.d)))
+    record { len_in_bounds = search rules; le_d = (omega arith, (omega arith, mul-mod_left c.args.n c.args.d)) }
