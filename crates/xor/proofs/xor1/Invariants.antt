@@ -1,13 +1,9 @@
 -- `xor1` meets its contract: i pixels are written. Assumes nothing.
-use mathlib.Core.Path.{◌≡◌, refl}
+use mathlib.Core.Path.{◌≡◌}
 use mathlib.Core.List.{[], ◌∷◌}
 use Prim.Native.Nat.{◌≤◌, ◌-◌}
-use native.Mathlib.Omega.{arith}
-use lib.ListN.{length, length-set}
-use borrow.Author.Rules.{rules}
+use lib.ListN.{length}
 use Rattle.byte_runs.specs.Runs.{run, xored, turn}
-use Rattle.byte_runs.proofs.Pixels.{turn_1, xored_1}
-use Rattle.byte_runs.proofs.Runs.{run_end}
 use Rattle.xor.proofs.xor1.Given as goal
 
 abbrev pub invariant-loop-i : goal.invariant-loop-i

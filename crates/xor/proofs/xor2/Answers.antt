@@ -1,11 +1,10 @@
 -- `xor2` meets its contract: i pixels are written. Assumes nothing.
-use mathlib.Core.Path.{◌≡◌, refl}
+use mathlib.Core.Path.{refl}
 use mathlib.Core.List.{[], ◌∷◌}
-use Prim.Native.Nat.{◌≤◌, ◌*◌, ◌-◌}
 use native.Mathlib.Omega.{arith}
-use lib.ListN.{length, length-set}
+use lib.ListN.{length-set}
 use borrow.Author.Rules.{rules}
-use Rattle.byte_runs.specs.Runs.{run, xored, turn}
+use Rattle.byte_runs.specs.Runs.{run, turn}
 use Rattle.byte_runs.proofs.Pixels.{turn_2, xored_2}
 use Rattle.byte_runs.proofs.Runs.{run_end}
 use Rattle.xor.proofs.xor2.Goals as goal

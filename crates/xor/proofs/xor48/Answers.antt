@@ -1,6 +1,5 @@
 -- `xor48` meets its contract: the mixed bytes, stored, are a run. Assumes nothing.
 use mathlib.Core.Path.{refl, ◌∙◌}
-use borrow.Author.Rules.{rules}
 use Rattle.byte_runs.specs.Runs.{each}
 use Rattle.byte_runs.proofs.Arrays.{stored-mixed}
 use Rattle.xor.proofs.xor48.Goals as goal

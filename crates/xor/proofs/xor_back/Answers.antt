@@ -3,8 +3,7 @@ use native.Mathlib.Nat.{mul-one}
 use native.Mathlib.Omega.{arith}
 use lib.Dec.{leb}
 use lib.ListN.{length}
-use borrow.Author.Rules.{rules}
-use borrow.Author.Tests.{not-true, not-false, le-leb, lt-leb}
+use borrow.Author.Tests.{le-leb, lt-leb}
 use Rattle.byte_runs.proofs.Fits.{both_hold, first_fails, second_fails, pixels_bounds, not_pixels, fit_told, where_holds, where_fails, fits-depth}
 use Rattle.xor.proofs.xor_back.Goals as goal
 

@@ -1,7 +1,6 @@
 -- `xor_few` meets its contract: the depth is two or three. Assumes nothing.
 use mathlib.Core.Path.{◌≡◌}
 use native.Mathlib.Omega.{arith}
-use borrow.Author.Rules.{rules}
 use Rattle.xor.proofs.xor_few.Goals as goal
 
 pub xor2-requires : goal.xor2-requires

@@ -1,13 +1,8 @@
 -- `xor_pattern` meets its contract: the run is written up to i, or to its end; i is a multiple of the period. Assumes nothing.
-use mathlib.Core.Path.{◌≡◌, refl}
+use mathlib.Core.Path.{◌≡◌}
 use Prim.Native.Nat.{◌<◌, ◌+◌, ◌-◌, ◌%◌, min}
-use native.Mathlib.Omega.{arith}
-use native.Mathlib.Nat.{zero-mod}
 use lib.ListN.{length}
-use borrow.Author.Rules.{rules}
 use Rattle.byte_runs.specs.Runs.{run, xored, turn}
-use Rattle.byte_runs.proofs.Patterns.{pattern_block, mod_sum}
-use Rattle.byte_runs.proofs.Runs.{run_end, run_none}
 use Rattle.xor.proofs.xor_pattern.Given as goal
 
 abbrev pub invariant-loop-i : goal.invariant-loop-i
