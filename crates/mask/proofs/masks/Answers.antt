@@ -18,7 +18,7 @@ pub returns-then-not-pixels_fit : goal.returns-then-not-pixels_fit
 returns-then-not-pixels_fit c =
     let a = c.args in
     no_pixels _ a.d a.at a.row (a.m * 8) a.first (there a.pos a.m a.src.now) a.dst.now
-    (fit_parted a.d a.at a.m 8 a.dst.now (omega arith) (omega arith) c.pixels_fit.ensures (not-true _ c.if-not-pixels_fit.true))
+    (fit_parted a.d a.at a.m 8 a.dst.now (omega arith) (omega arith) c.pixels_fit.ensures c.if-not-pixels_fit.true)
 
 pub returns-then-src-pos : goal.returns-then-src-pos
 returns-then-src-pos c =
@@ -33,7 +33,7 @@ returns-then-src-pos-2 c =
 pub put_masks-requires : goal.put_masks-requires
 put_masks-requires c =
     let a = c.args in
-    let fit = fit_parted a.d a.at a.m 8 a.dst.now (omega arith) (omega arith) c.pixels_fit.ensures (not-false _ c.if-not-pixels_fit.false) in
+    let fit = fit_parted a.d a.at a.m 8 a.dst.now (omega arith) (omega arith) c.pixels_fit.ensures c.if-not-pixels_fit.false in
     let b = pixels_bounds a.d a.at (a.m * 8) a.dst.now fit in
     (b.0, (b.1, (b.2, omega arith)))
 
@@ -41,7 +41,7 @@ pub returns-then-first : goal.returns-then-first
 returns-then-first c =
     let a = c.args in
     in_first (masked_by a.src.now a.pos a.d (a.a ∷ a.b ∷ a.c ∷ [])) a.d a.at a.row (a.m * 8) a.first (there a.pos a.m a.src.now) a.dst.now _ (is-there a.pos a.m a.src.now (omega arith))
-    (fit_parted a.d a.at a.m 8 a.dst.now (omega arith) (omega arith) c.pixels_fit.ensures (not-false _ c.if-not-pixels_fit.false))
+    (fit_parted a.d a.at a.m 8 a.dst.now (omega arith) (omega arith) c.pixels_fit.ensures c.if-not-pixels_fit.false)
     c.if-first.true c.put_masks.ensures
 
 pub returns-then-at-row : goal.returns-then-at-row
@@ -52,7 +52,7 @@ returns-then-at-row c =
 pub xor_masks-requires : goal.xor_masks-requires
 xor_masks-requires c =
     let a = c.args in
-    let fit = fit_parted a.d a.at a.m 8 a.dst.now (omega arith) (omega arith) c.pixels_fit.ensures (not-false _ c.if-not-pixels_fit.false) in
+    let fit = fit_parted a.d a.at a.m 8 a.dst.now (omega arith) (omega arith) c.pixels_fit.ensures c.if-not-pixels_fit.false in
     let b = pixels_bounds a.d a.at (a.m * 8) a.dst.now fit in
     (b.0, (b.1, (b.2, (omega arith, omega arith))))
 
@@ -60,5 +60,5 @@ pub returns : goal.returns
 returns c =
     let a = c.args in
     in_later (masked_by a.src.now a.pos a.d (a.a ∷ a.b ∷ a.c ∷ [])) a.d a.at a.row (a.m * 8) a.first (there a.pos a.m a.src.now) a.dst.now _ (is-there a.pos a.m a.src.now (omega arith))
-    (fit_parted a.d a.at a.m 8 a.dst.now (omega arith) (omega arith) c.pixels_fit.ensures (not-false _ c.if-not-pixels_fit.false))
+    (fit_parted a.d a.at a.m 8 a.dst.now (omega arith) (omega arith) c.pixels_fit.ensures c.if-not-pixels_fit.false)
     c.if-first.false (omega arith) c.xor_masks.ensures

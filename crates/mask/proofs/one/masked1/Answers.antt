@@ -1,4 +1,5 @@
 -- `masked1` meets its contract: i bytes are in the array, each by its bit. Assumes nothing.
+use mathlib.Core.Logic.{inl, inr}
 use mathlib.Core.Path.{◌≡◌, refl}
 use Prim.Native.Nat.{ℕ, ◌≤◌, ◌<◌, ◌-◌}
 use native.Mathlib.Omega.{arith}
@@ -9,6 +10,7 @@ use Rattle.byte_runs.specs.Runs.{inked}
 use Rattle.byte_runs.proofs.Masks.{ink_found}
 use Rattle.byte_runs.proofs.Arrays.{filled_by}
 use Rattle.mask.proofs.one.masked1.Goals as goal
+use Rattle.mask.proofs.one.masked1.Goals.{then-twice-bits, else-twice-bits}
 
 pub loop-i-init : goal.loop-i-init
 loop-i-init c = (search rules, search rules, λ k h. absurd (not-suc-le-zero h))
@@ -20,8 +22,10 @@ loop-i-preserved c =
       search rules,
       search rules,
       filled_by (inked a.m a.a) l.t l.i c.if-twice-bits.t (omega arith) l.invariant.2
-          (ink_found 1 a.m l.i l.i a.a c.if-twice-bits.t refl (omega arith) (omega arith) (omega arith)
-          (λ w. (w.0.taken, w.1)) (λ w. (w.0.left, w.1)) c.if-twice-bits.branch),
+          (elim c.if-twice-bits.branch [
+            then-twice-bits w ↦ ink_found 1 a.m l.i l.i a.a c.if-twice-bits.t refl (omega arith) (omega arith) (omega arith) (λ s. s) (λ s. s) (inl (w.if-twice-bits.true, w.t-is))
+          | else-twice-bits w ↦ ink_found 1 a.m l.i l.i a.a c.if-twice-bits.t refl (omega arith) (omega arith) (omega arith) (λ s. s) (λ s. s) (inr (w.if-twice-bits.false, w.t-is))
+          ]),
     )
 
 pub returns : goal.returns
