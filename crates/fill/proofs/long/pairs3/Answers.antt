@@ -7,19 +7,11 @@ use lib.ListN.{get_or}
 use borrow.Author.Rules.{rules}
 use Rattle.byte_runs.specs.Runs.{turn}
 use Rattle.byte_runs.proofs.Patterns.{repeated-run}
-use Rattle.fill.proofs.long.pairs3.Statement.{statement}
-use Rattle.fill.proofs.long.pairs3.Tie as tie
+use Rattle.fill.proofs.long.pairs3.Goals as goal
 
-returns-2 : tie.Need-returns-2
-returns-2 c =
-    let f = c.before.before.before.before.before.before in
-    let a = f.before.before.before.before.args in
+pub returns : goal.returns
+returns c =
+    let a = c.args in
     repeated-run (turn (a.a ∷ a.b ∷ a.c ∷ a.d ∷ a.e ∷ a.f ∷ []) 6) a.at (a.n * 6) _ _ _ (omega arith) (omega arith)
     (λ k. let z : k % 48 % 6 ≡ k % 6 = omega arith in ap (λ (j : ℕ). get_or (a.a ∷ a.b ∷ a.c ∷ a.d ∷ a.e ∷ a.f ∷ []) j 0) z)
-    c.before.before.repeat48.ensures f.fill62.ensures
-
-pub pairs3-spec : {M : Type 1} → statement M
-pairs3-spec =
-    tie.close
-    (tie.spec (λ c κs. search rules) (λ c. search rules) (λ c. search rules) (λ c κs. search rules) (λ c. search rules)
-    (λ c κs. search rules) (λ c. search rules) returns-2)
+    c.repeat48.ensures c.fill6-2.ensures

@@ -1,0 +1,17 @@
+-- `fill3` meets its contract: each turn is one pattern more of the run. Assumes nothing.
+use mathlib.Core.Path.{◌≡◌, refl}
+use mathlib.Core.List.{[], ◌∷◌}
+use Prim.Native.Nat.{◌-◌, ◌*◌, ◌≤◌}
+use native.Mathlib.Omega.{arith}
+use lib.ListN.{length, length-set}
+use borrow.Author.Rules.{rules}
+use Rattle.byte_runs.specs.Runs.{run, turn, bytes}
+use Rattle.byte_runs.proofs.Runs.{run_end}
+use Rattle.byte_runs.proofs.Pixels.{turn_more}
+use Rattle.fill.proofs.turns.fill3.Given as goal
+
+abbrev pub invariant-loop-i : goal.invariant-loop-i
+invariant-loop-i l = (l.i ≤ l.n) × (length l.dst ≡ length l.initial.dst) × (l.dst ≡ run (bytes (turn (l.a ∷ l.b ∷ l.c ∷ []) 3)) l.at (l.i * 3) l.initial.dst)
+
+abbrev pub decreases-loop-i : goal.decreases-loop-i
+decreases-loop-i l = l.n - l.i
