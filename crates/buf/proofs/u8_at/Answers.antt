@@ -1,7 +1,6 @@
 -- `buf::u8_at` meets its contract: the byte is missing or is there. Assumes nothing.
 use mathlib.Core.Path.{◌≡◌}
 use native.Mathlib.Omega.{arith}
-use borrow.Author.Rules.{rules}
 use Rattle.buf.specs.Stream.{remaining, u8_at}
 use Rattle.buf.proofs.Reading.{missing, found}
 use Rattle.buf.proofs.u8_at.Goals as goal

@@ -1,7 +1,6 @@
 -- `picture_size` meets its contract: one law for each test. Assumes nothing.
 use Rattle.picture.proofs.Sizes.{size-bpp, size-width, size-height, size-wide, size-high, size_fits, few, few_bytes}
 use native.Mathlib.Omega.{arith}
-use borrow.Author.Rules.{rules}
 use Rattle.picture.proofs.picture_size.Goals as goal
 
 pub returns-then-depth_index-ge4 : goal.returns-then-depth_index-ge4

@@ -1,6 +1,6 @@
 -- `put_decimal` meets its contract: it writes the digits of the number's tenth and then the last digit; 20 digits are enough for
 -- 64 bits. Assumes nothing.
-use Rattle.std.proofs.Common.{ℕ, ◌<◌, ◌^◌, sym, arith}
+use Rattle.std.proofs.Common.{◌<◌, ◌^◌, sym, arith}
 use Rattle.print.proofs.Printed.{decimal_small, decimal_more}
 use Rattle.print.proofs.Writing.{writes_as, writes_append}
 use Rattle.print.proofs.+put_decimal.Goals as goal

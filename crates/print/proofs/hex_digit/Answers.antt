@@ -1,7 +1,6 @@
 -- `hex_digit` meets its contract: its test is the definition's. Assumes nothing.
 use mathlib.Core.Path.{sym}
 use Rattle.print.proofs.Printed.{hex_low, hex_high}
-use borrow.Author.Rules.{rules}
 use Rattle.print.proofs.hex_digit.Goals as goal
 
 pub returns-then-d-lt10 : goal.returns-then-d-lt10

@@ -1,6 +1,5 @@
 -- `put_byte` meets its contract: it stores inside, and the place past the end stores nothing. Assumes nothing.
 use Rattle.print.proofs.Writing.{byte_past}
-use borrow.Author.Rules.{rules}
 use native.Mathlib.Omega.{arith}
 use Rattle.print.proofs.put_byte.Goals as goal
 

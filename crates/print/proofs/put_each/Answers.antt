@@ -1,10 +1,7 @@
 -- `put_each` meets its contract. The invariant: the bytes passed are written. Assumes nothing.
-use mathlib.Core.Path.{◌≡◌, refl, ◌∙◌, ap}
-use Prim.Native.Nat.{◌≤◌, ◌-◌}
-use lib.ListN.{length, take}
+use mathlib.Core.Path.{refl, ◌∙◌, ap}
 use lib.Seq.{take_all}
 use Rattle.print.specs.Digits.{each_of}
-use Rattle.print.specs.Writes.{Writes}
 use Rattle.print.proofs.Writing.{each_none, writes_none, writes_as, each_more}
 use borrow.Author.Rules.{rules}
 use native.Mathlib.Omega.{arith}
@@ -19,9 +16,6 @@ loop-i-preserved c =
     let l = c.loop-i in
     let a = c.args in
     (omega arith, put.auto.out ∙ l.invariant.1, each_more a.hex a.bytes.now l.i c.loop-i-test.true l.invariant.2 put.ensures)
-
-pub shape_of-out : goal.shape_of-out
-shape_of-out c = c.loop-i.invariant.1
 
 pub returns : goal.returns
 returns c =

@@ -1,13 +1,9 @@
 -- `put_each` meets its contract. The invariant: the bytes passed are written. Assumes nothing.
-use mathlib.Core.Path.{◌≡◌, refl, ◌∙◌, ap}
+use mathlib.Core.Path.{◌≡◌}
 use Prim.Native.Nat.{◌≤◌, ◌-◌}
 use lib.ListN.{length, take}
-use lib.Seq.{take_all}
 use Rattle.print.specs.Digits.{each_of}
 use Rattle.print.specs.Writes.{Writes}
-use Rattle.print.proofs.Writing.{each_none, writes_none, writes_as, each_more}
-use borrow.Author.Rules.{rules}
-use native.Mathlib.Omega.{arith}
 use Rattle.print.proofs.put_each.Given as goal
 
 abbrev pub invariant-loop-i : goal.invariant-loop-i

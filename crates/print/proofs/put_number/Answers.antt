@@ -1,6 +1,5 @@
 -- `put_number` meets its contract: the key, the digits and a line feed, one after the other. Assumes nothing.
 use Rattle.print.proofs.Writing.{line-written}
-use borrow.Author.Rules.{rules}
 use Rattle.print.proofs.put_number.Goals as goal
 
 pub returns : goal.returns

@@ -1,7 +1,6 @@
 -- `put_one` meets its contract: its test is the definition's. Assumes nothing.
 use Rattle.print.specs.Digits.{hex_pairs}
 use Rattle.print.proofs.Writing.{writes_as, writes_append}
-use borrow.Author.Rules.{rules}
 use Rattle.print.proofs.put_one.Goals as goal
 
 pub returns-then-hex : goal.returns-then-hex

@@ -2,7 +2,6 @@
 use Rattle.picture.specs.Sizes.{depths, no_depth}
 use Rattle.picture.proofs.Depths.{code_row, rows_agree, no_depth_lem}
 use native.Mathlib.Omega.{arith}
-use borrow.Author.Rules.{rules}
 use Rattle.picture.proofs.depth.depth_of.Goals as goal
 
 pub returns-then-i-ge4 : goal.returns-then-i-ge4
