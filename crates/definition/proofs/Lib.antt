@@ -6,3 +6,4 @@ pub mod Planned
 pub mod Bounds
 pub mod Runs
 pub mod Records
+pub mod Tiles
