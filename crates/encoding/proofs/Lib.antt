@@ -8,3 +8,4 @@ pub mod Heads
 pub mod Orders
 pub mod Trip
 pub mod RoundTrip
+pub mod Examples
