@@ -1,0 +1,19 @@
+-- `image_at` meets its contract. The invariant: no run starts at the pixels passed but the first. Assumes nothing.
+use borrow.Author.Rules.{rules}
+use mathlib.Core.Path.{◌≡◌, sym, ◌∙◌}
+use mathlib.Core.Bool.{true, false}
+use Prim.Native.Nat.{ℕ, ◌+◌, ◌-◌, ◌≤◌, ◌<◌}
+use native.Mathlib.Omega.{arith}
+use borrow.Author.Tests.{not-true, not-false}
+use Rattle.base.proofs.Tests.{before_or_last}
+use Rattle.encoding.specs.Encode.{start_at, is_none}
+use Rattle.encode.specs.Layouts.{pixels_in}
+use Rattle.encode.proofs.Starts.{image-is}
+use Rattle.encode.proofs.stretch.image_at.Given as goal
+
+abbrev pub invariant-loop-n : goal.invariant-loop-n
+invariant-loop-n l =
+    (1 ≤ l.n) × ((l.n ≤ l.last) × ((i : ℕ) → 1 ≤ i → i < l.n → is_none (start_at l.f.width (pixels_in l.f l.src) (l.k + i) false) ≡ true))
+
+abbrev pub decreases-loop-n : goal.decreases-loop-n
+decreases-loop-n l = l.last - l.n

@@ -1,0 +1,22 @@
+-- `extract_run_length_mega` meets its contract: the next byte is missing, or is there. Assumes nothing.
+use native.Mathlib.Omega.{arith}
+use Rattle.buf.proofs.Reading.{u8_is, u8_few}
+use Rattle.rle.proofs.Lengths.{mega_short, mega_read}
+use borrow.Author.Rules.{rules}
+use Rattle.rle.proofs.head.extract_run_length_mega.Goals as goal
+
+pub overflow_add-result : goal.overflow_add-result
+overflow_add-result c =
+    let is = u8_is c.args.src.now c.args.pos _ _ c.u8_from-read.ensures c.in-Value.is in
+    omega (arith, is.1, c.shared_slice_known-1.given c.args.pos)
+
+pub returns-in-NotEnoughBytes : goal.returns-in-NotEnoughBytes
+returns-in-NotEnoughBytes c =
+    mega_short c.args.src.now c.args.pos c.requires.0 _ _ _
+    (u8_few c.args.src.now c.args.pos _ _ _ c.u8_from-read.ensures c.in-NotEnoughBytes.is)
+
+pub returns-in-Value : goal.returns-in-Value
+returns-in-Value c =
+    mega_read c.args.src.now c.args.pos c.requires.0 _ _
+    (u8_is c.args.src.now c.args.pos _ _ c.u8_from-read.ensures c.in-Value.is)
+    (omega (arith, c.shared_slice_known-1.given c.args.pos)) c.requires.1 c.requires.2

@@ -1,0 +1,29 @@
+-- `set_fg_run` meets its contract: the run is painted as planned, with the foreground that it reads. Assumes nothing.
+use mathlib.Core.Path.{refl}
+use native.Mathlib.Omega.{arith}
+use Rattle.definition.specs.Orders.{SetFgRun}
+use Rattle.definition.specs.Plan.{counts_of, kind_ink, leaves, insert_in, foreground_in}
+use Rattle.rle.proofs.Painting.{painted_as}
+use Rattle.rle.proofs.Inks.{row-reach, fg-is, new_of_depth}
+use Rattle.rle.proofs.Orders.{within, fits, fits_with, executes_finished, paintable}
+use borrow.Author.Rules.{rules}
+use Rattle.rle.proofs.run.set_fg_run.Goals as goal
+
+pub paint_fg_run-requires : goal.paint_fg_run-requires
+unfolding counts_of
+paint_fg_run-requires c =
+    let w = within c.requires.ready SetFgRun _ c.plan_pixel_run-p.result c.plan_pixel_run-p.ensures in
+    rw (c.fg_ink.ensures, c.new_foreground-t.ensures)
+    (paintable c.args.dst.now _ c.requires.ready w.pixels _ (row-reach _ c.requires.ready.invariant) (new_of_depth c.requires.ready.frame c.requires.ready.invariant.foreground _))
+
+pub finished-requires : goal.finished-requires
+unfolding counts_of
+finished-requires c =
+    fits_with c.new_foreground-t.ensures (fits c.requires.ready SetFgRun _ c.plan_pixel_run-p.result c.plan_pixel_run-p.ensures (omega arith))
+
+pub returns : goal.returns
+unfolding counts_of foreground_in insert_in kind_ink leaves
+returns c =
+    let new = c.new_foreground-t.ensures in
+    executes_finished _ _ _ c.requires.ready c.requires.pos_in_bounds SetFgRun c.plan_pixel_run-p.result c.plan_pixel_run-p.ensures (record { state = new; insert = refl }) c.finished.ensures
+    (painted_as (λ _ _. fg-is c.args.s new c.fg_ink.ensures) c.paint_fg_run.ensures)
