@@ -2,7 +2,6 @@
 use native.Mathlib.Omega.{arith}
 use lib.Dec.{leb}
 use borrow.Author.Tests.{le-leb, lt-leb}
-use borrow.Author.Rules.{rules}
 use Rattle.byte_runs.proofs.Fits.{both_hold, first_fails, second_fails, is-there, not_there, where_holds, where_fails}
 use Rattle.copy.proofs.copy_back.Goals as goal
 

@@ -1,6 +1,5 @@
 -- `copy_in` meets its contract: each test that fails leaves the bytes as they are, as the contract does. Assumes nothing.
 use native.Mathlib.Omega.{arith}
-use borrow.Author.Rules.{rules}
 use Rattle.byte_runs.specs.Runs.{there}
 use Rattle.byte_runs.proofs.Fits.{both_hold, first_fails, second_fails, is-there, not_there, where_holds, where_fails}
 use Rattle.copy.proofs.copy_in.Goals as goal

@@ -2,7 +2,6 @@
 use mathlib.Core.Path.{◌∙◌}
 use Prim.Native.Nat.{ℕ, ◌+◌}
 use lib.ListN.{get_or}
-use borrow.Author.Rules.{rules}
 use Rattle.byte_runs.proofs.Arrays.{stored}
 use Rattle.copy.proofs.back.back8.Goals as goal
 

@@ -1,11 +1,8 @@
 -- `back_blocks` meets its contract: each block is 16 bytes more of the run, and the last one ends it. Assumes nothing.
-use mathlib.Core.Path.{◌≡◌, refl}
-use Prim.Native.Nat.{ℕ, ◌-◌, ◌≤◌}
-use native.Mathlib.Omega.{arith}
+use mathlib.Core.Path.{◌≡◌}
+use Prim.Native.Nat.{◌-◌, ◌≤◌}
 use lib.ListN.{length}
-use borrow.Author.Rules.{rules}
 use Rattle.byte_runs.specs.Runs.{run, above}
-use Rattle.byte_runs.proofs.Blocks.{back_block}
 use Rattle.copy.proofs.back.back_blocks.Given as goal
 
 abbrev pub invariant-loop-i : goal.invariant-loop-i

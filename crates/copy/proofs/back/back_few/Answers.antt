@@ -2,7 +2,6 @@
 use mathlib.Core.Path.{refl}
 use native.Mathlib.Omega.{arith}
 use lib.ListN.{length-set}
-use borrow.Author.Rules.{rules}
 use Rattle.byte_runs.proofs.Runs.{run_none}
 use Rattle.byte_runs.proofs.Blocks.{few-back}
 use Rattle.copy.proofs.back.back_few.Goals as goal

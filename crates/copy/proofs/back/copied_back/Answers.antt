@@ -1,6 +1,5 @@
 -- `copied_back` meets its contract: each way of the size tests is a run: byte by byte, few bytes, two blocks that may overlap, or many. Assumes nothing.
 use native.Mathlib.Omega.{arith}
-use borrow.Author.Rules.{rules}
 use Rattle.byte_runs.proofs.Blocks.{two_back}
 use Rattle.copy.proofs.back.copied_back.Goals as goal
 

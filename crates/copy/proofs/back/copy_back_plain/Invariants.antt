@@ -1,10 +1,8 @@
 -- `copy_back_plain` meets its contract: each store is one byte more of the run. Assumes nothing.
-use mathlib.Core.Path.{◌≡◌, refl}
+use mathlib.Core.Path.{◌≡◌}
 use Prim.Native.Nat.{◌-◌, ◌≤◌}
 use lib.ListN.{length}
-use borrow.Author.Rules.{rules}
 use Rattle.byte_runs.specs.Runs.{run, above}
-use Rattle.byte_runs.proofs.Runs.{run_more, run_end}
 use Rattle.copy.proofs.back.copy_back_plain.Given as goal
 
 abbrev pub invariant-loop-j : goal.invariant-loop-j

@@ -1,11 +1,7 @@
 -- `load4` meets its contract: the array is filled in order. Assumes nothing.
 use mathlib.Core.Path.{◌≡◌}
 use Prim.Native.Nat.{ℕ, ◌+◌, ◌-◌, ◌≤◌, ◌<◌}
-use native.Mathlib.Omega.{arith}
-use native.Mathlib.Nat.{not-suc-le-zero}
 use lib.ListN.{length, get_or}
-use borrow.Author.Rules.{rules}
-use Rattle.byte_runs.proofs.Arrays.{filled_more}
 use Rattle.copy.proofs.block.load4.Given as goal
 
 abbrev pub invariant-loop-i : goal.invariant-loop-i

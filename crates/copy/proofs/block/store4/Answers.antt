@@ -1,9 +1,7 @@
 -- `store4` meets its contract: each store is one byte more of the run. Assumes nothing.
-use mathlib.Core.Path.{◌≡◌, refl}
-use Prim.Native.Nat.{◌-◌, ◌≤◌}
-use lib.ListN.{length}
+use mathlib.Core.Path.{refl}
 use borrow.Author.Rules.{rules}
-use Rattle.byte_runs.specs.Runs.{run, listed}
+use Rattle.byte_runs.specs.Runs.{run}
 use Rattle.byte_runs.proofs.Runs.{run_more, run_end}
 use Rattle.copy.proofs.block.store4.Goals as goal
 

@@ -1,6 +1,5 @@
 -- `copied_in` meets its contract: each way of the size tests is a run: few bytes, two blocks that may overlap, or many. Assumes nothing.
 use native.Mathlib.Omega.{arith}
-use borrow.Author.Rules.{rules}
 use Rattle.byte_runs.proofs.Blocks.{two_in}
 use Rattle.copy.proofs.stream.copied_in.Goals as goal
 

@@ -2,7 +2,6 @@
 use mathlib.Core.Path.{◌∙◌}
 use Prim.Native.Nat.{ℕ, ◌+◌}
 use lib.ListN.{get_or}
-use borrow.Author.Rules.{rules}
 use Rattle.byte_runs.proofs.Arrays.{stored}
 use Rattle.copy.proofs.stream.in8.Goals as goal
 

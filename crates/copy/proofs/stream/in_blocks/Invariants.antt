@@ -1,11 +1,8 @@
 -- `in_blocks` meets its contract: each block is 16 bytes more of the run, and the last one ends it. Assumes nothing.
-use mathlib.Core.Path.{◌≡◌, refl}
+use mathlib.Core.Path.{◌≡◌}
 use Prim.Native.Nat.{◌-◌, ◌≤◌}
-use native.Mathlib.Omega.{arith}
 use lib.ListN.{length}
-use borrow.Author.Rules.{rules}
 use Rattle.byte_runs.specs.Runs.{run, taken}
-use Rattle.byte_runs.proofs.Blocks.{copied_block}
 use Rattle.copy.proofs.stream.in_blocks.Given as goal
 
 abbrev pub invariant-loop-i : goal.invariant-loop-i

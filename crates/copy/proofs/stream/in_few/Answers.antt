@@ -3,7 +3,6 @@ use mathlib.Core.Path.{◌≡◌, refl, ap}
 use Prim.Native.Nat.{ℕ, ◌+◌, ◌-◌}
 use native.Mathlib.Omega.{arith}
 use lib.ListN.{get_or, length-set}
-use borrow.Author.Rules.{rules}
 use Rattle.byte_runs.proofs.Runs.{run_none}
 use Rattle.byte_runs.specs.Runs.{taken}
 use Rattle.byte_runs.proofs.Blocks.{few}
