@@ -4,7 +4,6 @@ use Prim.Native.Nat.{◌≤◌}
 use native.Mathlib.Nat.{mul-le-mul}
 use native.Mathlib.Omega.{arith}
 use lib.Dec.{leb}
-use borrow.Author.Rules.{rules}
 use borrow.Author.Tests.{le-leb, lt-leb}
 use Rattle.byte_runs.specs.Runs.{both, there, masked_by}
 use Rattle.byte_runs.proofs.Fits.{both_hold, first_fails, second_fails, is-there, not_there, pixels-there, no_bytes, many_bytes, no_room_lem}

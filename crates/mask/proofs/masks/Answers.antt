@@ -2,8 +2,6 @@
 use mathlib.Core.List.{[], ◌∷◌}
 use Prim.Native.Nat.{◌*◌}
 use native.Mathlib.Omega.{arith}
-use borrow.Author.Rules.{rules}
-use borrow.Author.Tests.{not-true, not-false}
 use Rattle.byte_runs.specs.Runs.{there, masked_by}
 use Rattle.byte_runs.proofs.Fits.{is-there, not_there, pixels_bounds, not_pixels, fit_parted}
 use Rattle.mask.proofs.Places.{no_pixels, no_masks, no_row, in_first, in_later}

@@ -3,7 +3,6 @@ use mathlib.Core.List.{[], ◌∷◌}
 use Prim.Native.Nat.{ℕ, ◌*◌}
 use native.Mathlib.Omega.{arith}
 use lib.ListN.{length}
-use borrow.Author.Rules.{rules}
 use Rattle.byte_runs.specs.Runs.{xored, masked_by}
 use Rattle.byte_runs.proofs.Fits.{fits-depth, run-depth}
 use Rattle.mask.proofs.xor_masks.Goals as goal

@@ -1,14 +1,9 @@
 -- `first1` meets its contract: i masks are written. Assumes nothing.
-use mathlib.Core.Path.{◌≡◌, refl}
+use mathlib.Core.Path.{◌≡◌}
 use mathlib.Core.List.{[], ◌∷◌}
 use Prim.Native.Nat.{◌≤◌, ◌*◌, ◌-◌}
-use native.Mathlib.Omega.{arith}
 use lib.ListN.{length}
-use borrow.Author.Rules.{rules}
 use Rattle.byte_runs.specs.Runs.{run, masked_by, bytes}
-use Rattle.byte_runs.proofs.Blocks.{bytes_block}
-use Rattle.byte_runs.proofs.Masks.{mask_at1}
-use Rattle.byte_runs.proofs.Runs.{run_end}
 use Rattle.mask.proofs.one.first1.Given as goal
 
 abbrev pub invariant-loop-i : goal.invariant-loop-i

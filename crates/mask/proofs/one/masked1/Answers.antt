@@ -1,10 +1,8 @@
 -- `masked1` meets its contract: i bytes are in the array, each by its bit. Assumes nothing.
 use mathlib.Core.Logic.{inl, inr}
-use mathlib.Core.Path.{◌≡◌, refl}
-use Prim.Native.Nat.{ℕ, ◌≤◌, ◌<◌, ◌-◌}
+use mathlib.Core.Path.{refl}
 use native.Mathlib.Omega.{arith}
 use native.Mathlib.Nat.{not-suc-le-zero}
-use lib.ListN.{length, get_or}
 use borrow.Author.Rules.{rules}
 use Rattle.byte_runs.specs.Runs.{inked}
 use Rattle.byte_runs.proofs.Masks.{ink_found}
@@ -23,8 +21,8 @@ loop-i-preserved c =
       search rules,
       filled_by (inked a.m a.a) l.t l.i c.if-twice-bits.t (omega arith) l.invariant.2
           (elim c.if-twice-bits.branch [
-            then-twice-bits w ↦ ink_found 1 a.m l.i l.i a.a c.if-twice-bits.t refl (omega arith) (omega arith) (omega arith) (λ s. s) (λ s. s) (inl (w.if-twice-bits.true, w.t-is))
-          | else-twice-bits w ↦ ink_found 1 a.m l.i l.i a.a c.if-twice-bits.t refl (omega arith) (omega arith) (omega arith) (λ s. s) (λ s. s) (inr (w.if-twice-bits.false, w.t-is))
+            | then-twice-bits w ↦ ink_found 1 a.m l.i l.i a.a c.if-twice-bits.t refl (omega arith) (omega arith) (omega arith) (λ s. s) (λ s. s) (inl (w.if-twice-bits.true, w.t-is))
+            | else-twice-bits w ↦ ink_found 1 a.m l.i l.i a.a c.if-twice-bits.t refl (omega arith) (omega arith) (omega arith) (λ s. s) (λ s. s) (inr (w.if-twice-bits.false, w.t-is))
           ]),
     )
 

@@ -1,13 +1,8 @@
 -- `masked1` meets its contract: i bytes are in the array, each by its bit. Assumes nothing.
-use mathlib.Core.Path.{◌≡◌, refl}
+use mathlib.Core.Path.{◌≡◌}
 use Prim.Native.Nat.{ℕ, ◌≤◌, ◌<◌, ◌-◌}
-use native.Mathlib.Omega.{arith}
-use native.Mathlib.Nat.{not-suc-le-zero}
 use lib.ListN.{length, get_or}
-use borrow.Author.Rules.{rules}
 use Rattle.byte_runs.specs.Runs.{inked}
-use Rattle.byte_runs.proofs.Masks.{ink_found}
-use Rattle.byte_runs.proofs.Arrays.{filled_by}
 use Rattle.mask.proofs.one.masked1.Given as goal
 
 abbrev pub invariant-loop-i : goal.invariant-loop-i

@@ -1,6 +1,5 @@
 -- `put_mask1` meets its contract: the mask's bytes, stored, are a run. Assumes nothing.
 use mathlib.Core.Path.{◌∙◌}
-use borrow.Author.Rules.{rules}
 use Rattle.byte_runs.specs.Runs.{inked}
 use Rattle.byte_runs.proofs.Arrays.{stored}
 use Rattle.mask.proofs.one.put_mask1.Goals as goal

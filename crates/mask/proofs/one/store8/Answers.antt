@@ -1,9 +1,7 @@
 -- `store8` meets its contract: j bytes are stored. Assumes nothing.
-use mathlib.Core.Path.{◌≡◌, refl}
-use Prim.Native.Nat.{◌≤◌, ◌-◌}
-use lib.ListN.{length}
+use mathlib.Core.Path.{refl}
 use borrow.Author.Rules.{rules}
-use Rattle.byte_runs.specs.Runs.{run, listed}
+use Rattle.byte_runs.specs.Runs.{run}
 use Rattle.byte_runs.proofs.Runs.{run_more, run_end}
 use Rattle.mask.proofs.one.store8.Goals as goal
 

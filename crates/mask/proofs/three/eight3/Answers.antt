@@ -1,10 +1,8 @@
 -- `eight3` meets its contract: i pixels are in the array. Assumes nothing.
-use mathlib.Core.Path.{◌≡◌}
 use mathlib.Core.List.{[], ◌∷◌}
-use Prim.Native.Nat.{ℕ, ◌≤◌, ◌<◌, ◌*◌, ◌-◌}
 use native.Mathlib.Omega.{arith}
 use native.Mathlib.Nat.{not-suc-le-zero}
-use lib.ListN.{length, length-set, get_or}
+use lib.ListN.{length-set}
 use borrow.Author.Rules.{rules}
 use Rattle.byte_runs.specs.Runs.{turn}
 use Rattle.byte_runs.proofs.Arrays.{filled_3}

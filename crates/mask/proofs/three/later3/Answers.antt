@@ -1,11 +1,10 @@
 -- `later3` meets its contract: i masks are written. Assumes nothing.
-use mathlib.Core.Path.{◌≡◌, refl}
+use mathlib.Core.Path.{refl}
 use mathlib.Core.List.{[], ◌∷◌}
-use Prim.Native.Nat.{◌≤◌, ◌*◌, ◌-◌}
+use Prim.Native.Nat.{◌*◌}
 use native.Mathlib.Omega.{arith}
-use lib.ListN.{length}
 use borrow.Author.Rules.{rules}
-use Rattle.byte_runs.specs.Runs.{run, xored, masked_by}
+use Rattle.byte_runs.specs.Runs.{run, masked_by}
 use Rattle.byte_runs.proofs.Blocks.{mixed_block}
 use Rattle.byte_runs.proofs.Masks.{mask_at3}
 use Rattle.byte_runs.proofs.Runs.{run_end}

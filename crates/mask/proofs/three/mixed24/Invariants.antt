@@ -1,12 +1,8 @@
 -- `mixed24` meets its contract: i bytes are mixed. Assumes nothing.
 use mathlib.Core.Path.{◌≡◌}
 use Prim.Native.Nat.{ℕ, ◌≤◌, ◌<◌, ◌+◌, ◌-◌}
-use native.Mathlib.Omega.{arith}
-use native.Mathlib.Nat.{not-suc-le-zero}
 use lib.ListN.{length, get_or}
-use borrow.Author.Rules.{rules}
 use lib.Bits.{bit_xor}
-use Rattle.byte_runs.proofs.Arrays.{filled_more}
 use Rattle.mask.proofs.three.mixed24.Given as goal
 
 abbrev pub invariant-loop-i : goal.invariant-loop-i

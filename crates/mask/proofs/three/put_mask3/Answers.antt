@@ -1,6 +1,5 @@
 -- `put_mask3` meets its contract: the mask's bytes, stored, are a run. Assumes nothing.
 use mathlib.Core.Path.{◌∙◌}
-use borrow.Author.Rules.{rules}
 use Rattle.byte_runs.specs.Runs.{inked_by}
 use Rattle.byte_runs.proofs.Arrays.{stored}
 use Rattle.mask.proofs.three.put_mask3.Goals as goal

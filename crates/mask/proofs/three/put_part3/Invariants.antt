@@ -1,14 +1,9 @@
 -- `put_part3` meets its contract: i pixels are written, and m is the mask halved i times. Assumes nothing.
-use mathlib.Core.Path.{◌≡◌, refl}
+use mathlib.Core.Path.{◌≡◌}
 use mathlib.Core.List.{[], ◌∷◌}
-use Prim.Native.Nat.{◌≤◌, ◌+◌, ◌*◌, ◌-◌, ◌/◌, ◌^◌}
-use native.Mathlib.Omega.{arith}
-use lib.ListN.{length, length-set, get_or}
-use borrow.Author.Rules.{rules}
+use Prim.Native.Nat.{◌≤◌, ◌*◌, ◌-◌, ◌/◌, ◌^◌}
+use lib.ListN.{length, get_or}
 use Rattle.byte_runs.specs.Runs.{run, bytes, masked_by}
-use Rattle.byte_runs.proofs.Masks.{half, part_byte, whole}
-use Rattle.byte_runs.proofs.Pixels.{turn_3, more_3}
-use Rattle.byte_runs.proofs.Runs.{run_end}
 use Rattle.mask.proofs.three.put_part3.Given as goal
 
 abbrev pub invariant-loop-i : goal.invariant-loop-i

@@ -1,10 +1,8 @@
 -- `store24` meets its contract: j bytes are stored. Assumes nothing.
-use mathlib.Core.Path.{◌≡◌, refl}
+use mathlib.Core.Path.{◌≡◌}
 use Prim.Native.Nat.{◌≤◌, ◌-◌}
 use lib.ListN.{length}
-use borrow.Author.Rules.{rules}
 use Rattle.byte_runs.specs.Runs.{run, listed}
-use Rattle.byte_runs.proofs.Runs.{run_more, run_end}
 use Rattle.mask.proofs.three.store24.Given as goal
 
 abbrev pub invariant-loop-j : goal.invariant-loop-j

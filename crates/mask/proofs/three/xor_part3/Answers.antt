@@ -1,11 +1,11 @@
 -- `xor_part3` meets its contract: i pixels are written, and m is the mask halved i times. Assumes nothing.
-use mathlib.Core.Path.{◌≡◌, refl}
+use mathlib.Core.Path.{refl}
 use mathlib.Core.List.{[], ◌∷◌}
-use Prim.Native.Nat.{◌≤◌, ◌+◌, ◌*◌, ◌-◌, ◌/◌, ◌^◌}
+use Prim.Native.Nat.{◌+◌, ◌*◌}
 use native.Mathlib.Omega.{arith}
-use lib.ListN.{length, length-set, get_or}
+use lib.ListN.{length-set, get_or}
 use borrow.Author.Rules.{rules}
-use Rattle.byte_runs.specs.Runs.{run, xored, masked_by}
+use Rattle.byte_runs.specs.Runs.{run, masked_by}
 use Rattle.byte_runs.proofs.Masks.{half, part_byte, whole}
 use Rattle.byte_runs.proofs.Pixels.{turn_3, xored_3}
 use Rattle.byte_runs.proofs.Runs.{run_end}

@@ -2,13 +2,8 @@
 use mathlib.Core.Path.{◌≡◌}
 use mathlib.Core.List.{[], ◌∷◌}
 use Prim.Native.Nat.{ℕ, ◌≤◌, ◌<◌, ◌*◌, ◌-◌}
-use native.Mathlib.Omega.{arith}
-use native.Mathlib.Nat.{not-suc-le-zero}
-use lib.ListN.{length, length-set, get_or}
-use borrow.Author.Rules.{rules}
+use lib.ListN.{length, get_or}
 use Rattle.byte_runs.specs.Runs.{turn}
-use Rattle.byte_runs.proofs.Arrays.{filled_2}
-use Rattle.byte_runs.proofs.Pixels.{turn_2}
 use Rattle.mask.proofs.two.eight2.Given as goal
 
 abbrev pub invariant-loop-i : goal.invariant-loop-i

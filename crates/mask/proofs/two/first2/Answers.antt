@@ -1,11 +1,10 @@
 -- `first2` meets its contract: i masks are written. Assumes nothing.
-use mathlib.Core.Path.{◌≡◌, refl}
+use mathlib.Core.Path.{refl}
 use mathlib.Core.List.{[], ◌∷◌}
-use Prim.Native.Nat.{◌≤◌, ◌*◌, ◌-◌}
+use Prim.Native.Nat.{◌*◌}
 use native.Mathlib.Omega.{arith}
-use lib.ListN.{length}
 use borrow.Author.Rules.{rules}
-use Rattle.byte_runs.specs.Runs.{run, bytes, masked_by}
+use Rattle.byte_runs.specs.Runs.{run, masked_by}
 use Rattle.byte_runs.proofs.Blocks.{bytes_block}
 use Rattle.byte_runs.proofs.Masks.{mask_at2}
 use Rattle.byte_runs.proofs.Runs.{run_end}

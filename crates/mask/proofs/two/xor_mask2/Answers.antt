@@ -1,6 +1,5 @@
 -- `xor_mask2` meets its contract: the mixed bytes, stored, are a run. Assumes nothing.
 use mathlib.Core.Path.{◌∙◌}
-use borrow.Author.Rules.{rules}
 use Rattle.byte_runs.specs.Runs.{inked_by}
 use Rattle.byte_runs.proofs.Arrays.{stored-mixed}
 use Rattle.mask.proofs.two.xor_mask2.Goals as goal
