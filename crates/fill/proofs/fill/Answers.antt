@@ -4,8 +4,6 @@ use mathlib.Core.List.{[], ◌∷◌}
 use Prim.Native.Nat.{ℕ, ◌*◌}
 use native.Mathlib.Omega.{arith}
 use lib.ListN.{length}
-use borrow.Author.Rules.{rules}
-use borrow.Author.Tests.{not-true, not-false}
 use Rattle.byte_runs.specs.Runs.{turn, bytes}
 use Rattle.byte_runs.proofs.Fits.{pixels_bounds, not_pixels, fit_told, where_holds, where_fails, fits-depth, run-depth}
 use Rattle.byte_runs.proofs.Pixels.{turn-first}

@@ -3,8 +3,6 @@ use mathlib.Core.List.{[], ◌∷◌}
 use Prim.Native.Nat.{ℕ, ◌*◌}
 use native.Mathlib.Omega.{arith}
 use lib.ListN.{length}
-use borrow.Author.Rules.{rules}
-use borrow.Author.Tests.{not-true, not-false}
 use Rattle.byte_runs.specs.Runs.{turn, bytes, pair_of}
 use Rattle.byte_runs.proofs.Fits.{pixels_bounds, not_pixels, fit_parted, where_holds, where_fails, fits-depth, run-depth}
 use Rattle.fill.proofs.fill_pairs.Goals as goal

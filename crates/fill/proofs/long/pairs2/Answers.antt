@@ -4,7 +4,6 @@ use mathlib.Core.List.{[], ◌∷◌}
 use Prim.Native.Nat.{ℕ, ◌*◌, ◌%◌}
 use native.Mathlib.Omega.{arith}
 use lib.ListN.{get_or}
-use borrow.Author.Rules.{rules}
 use Rattle.byte_runs.specs.Runs.{turn}
 use Rattle.byte_runs.proofs.Patterns.{repeated-run}
 use Rattle.fill.proofs.long.pairs2.Goals as goal

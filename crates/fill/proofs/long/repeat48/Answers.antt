@@ -1,7 +1,6 @@
 -- `repeat48` meets its contract: bytes from 48 and from 192 back are the first 48 over and over. Assumes nothing.
 use Prim.Native.Nat.{◌+◌, ◌-◌}
 use native.Mathlib.Omega.{arith}
-use borrow.Author.Rules.{rules}
 use Rattle.byte_runs.proofs.Fits.{back-there}
 use Rattle.byte_runs.proofs.Patterns.{repeat_one, repeat_two}
 use Rattle.fill.proofs.long.repeat48.Goals as goal

@@ -1,12 +1,9 @@
 -- `fill1` meets its contract: each store is one byte more of the run. Assumes nothing.
-use mathlib.Core.Path.{◌≡◌, refl, ap}
+use mathlib.Core.Path.{◌≡◌}
 use mathlib.Core.List.{[], ◌∷◌}
-use Prim.Native.Nat.{ℕ, ◌-◌, ◌%◌, ◌≤◌}
-use native.Mathlib.Omega.{arith}
-use lib.ListN.{length, get_or}
-use borrow.Author.Rules.{rules}
+use Prim.Native.Nat.{◌-◌, ◌≤◌}
+use lib.ListN.{length}
 use Rattle.byte_runs.specs.Runs.{run, turn, bytes}
-use Rattle.byte_runs.proofs.Runs.{store_more, run_end}
 use Rattle.fill.proofs.turns.fill1.Given as goal
 
 abbrev pub invariant-loop-i : goal.invariant-loop-i

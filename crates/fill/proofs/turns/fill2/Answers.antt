@@ -1,11 +1,10 @@
 -- `fill2` meets its contract: each turn is one pattern more of the run. Assumes nothing.
-use mathlib.Core.Path.{◌≡◌, refl}
+use mathlib.Core.Path.{refl}
 use mathlib.Core.List.{[], ◌∷◌}
-use Prim.Native.Nat.{◌-◌, ◌*◌, ◌≤◌}
 use native.Mathlib.Omega.{arith}
-use lib.ListN.{length, length-set}
+use lib.ListN.{length-set}
 use borrow.Author.Rules.{rules}
-use Rattle.byte_runs.specs.Runs.{run, turn, bytes}
+use Rattle.byte_runs.specs.Runs.{run}
 use Rattle.byte_runs.proofs.Runs.{run_end}
 use Rattle.byte_runs.proofs.Pixels.{turn_more}
 use Rattle.fill.proofs.turns.fill2.Goals as goal
