@@ -10,6 +10,7 @@ ghost use Rattle.print.specs.Text.{line};
 ghost use Rattle.print.specs.Digits.{hex_digit, decimal, hex_pairs, each_of};
 ghost use Rattle.print.specs.Writes.{Writes};
 
+#[tactic(auto, using(crate::proofs::Writing::byte_past))]
 pub fn put_byte(b: u8, out: &mut [u8], at: usize) -> usize
     ensures { Writes out.old at (b ∷ []) out.new result }
 {
@@ -68,6 +69,7 @@ pub fn put_pairs(bytes: &[u8], out: &mut [u8], at: usize) -> usize
 }
 
 // The digits of n / 10, and then the last one.
+#[tactic(auto, using(crate::proofs::Printed::decimal_small))]
 pub fn put_decimal(n: usize, out: &mut [u8], at: usize) -> usize
     ensures { Writes out.old at (decimal n) out.new result }
 {
