@@ -21,12 +21,12 @@ returns-then-height-eq0 c =
 pub returns-then-width-gt-MAX_DECODE_DIM : goal.returns-then-width-gt-MAX_DECODE_DIM
 returns-then-width-gt-MAX_DECODE_DIM c =
     let a = c.args in
-    size-wide a.bpp a.width a.height _ c.depth_index.ensures c.if-depth_index-ge4.false c.if-width-eq0.false c.if-height-eq0.false c.if-width-gt-MAX_DECODE_DIM.true
+    size-wide a.bpp a.width a.height _ c.depth_index.ensures c.if-depth_index-ge4.false c.if-width-eq0.false c.if-height-eq0.false (omega arith)
 
 pub returns-then-height-gt-MAX_DECODE_DIM : goal.returns-then-height-gt-MAX_DECODE_DIM
 returns-then-height-gt-MAX_DECODE_DIM c =
     let a = c.args in
-    size-high a.bpp a.width a.height _ c.depth_index.ensures c.if-depth_index-ge4.false c.if-width-eq0.false c.if-height-eq0.false c.if-width-gt-MAX_DECODE_DIM.false c.if-height-gt-MAX_DECODE_DIM.true
+    size-high a.bpp a.width a.height _ c.depth_index.ensures c.if-depth_index-ge4.false c.if-width-eq0.false c.if-height-eq0.false c.if-width-gt-MAX_DECODE_DIM.false (omega arith)
 
 pub overflow_mul-result : goal.overflow_mul-result
 overflow_mul-result c = omega (arith, few c.if-width-gt-MAX_DECODE_DIM.false c.if-height-gt-MAX_DECODE_DIM.false)

