@@ -7,10 +7,10 @@ use native.Mathlib.Nat.{add-zero, zero-add}
 use native.Mathlib.Omega.{arith}
 use lib.ListN.{length, get_or, drop, length-map}
 use Rattle.base.proofs.Tests.{apart}
-use Rattle.picture.specs.Sizes.{Refusal, Frame, Checked, refused, accepted, checked}
-use Rattle.definition.specs.Orders.{Kind, RunLength, run_length, refused, row_of, length_of, Head, head, headed, head_of}
-use Rattle.definition.specs.Decode.{State, Step, refused, step, start, Run, ended, paused, at_end, then_run, run, decode, end_first_row, result_of, of_run, of_checked, result}
-use Rattle.definition.specs.Plan.{Ending, complete, refused, Progress, progress_of, plan_by, plan_from, plan_of, past_first_row, plan_state, plan_step, plan_record, end_with, insert_after, orders_after}
+use Rattle.picture.specs.Sizes.{Refusal, Frame, Checked, accepted, checked}
+use Rattle.definition.specs.Orders.{Kind, RunLength, run_length, row_of, length_of, Head, head, headed, head_of}
+use Rattle.definition.specs.Decode.{State, Step, step, start, Run, ended, paused, at_end, then_run, run, decode, end_first_row, result_of, of_run, of_checked, result}
+use Rattle.definition.specs.Plan.{Ending, complete, Progress, progress_of, plan_by, plan_from, plan_of, past_first_row, plan_state, plan_step, plan_record, end_with, insert_after, orders_after}
 use Rattle.definition.specs.Records.{Order, unless_end, then_orders, orders_from, run_length_in, record_by, record_of, records_in, records, Numbered, order, no_order, numbered_by, nth}
 use Rattle.definition.proofs.Painting.{length-paint}
 use Rattle.definition.proofs.Bounds.{Bytes, Read, read, unread, length-read, last}
