@@ -18,7 +18,7 @@ use Rattle.base.specs.Picks.{pick}
 use Rattle.picture.specs.Sizes.{refusal, Frame}
 use Rattle.base.proofs.Tests.{by_test}
 use Rattle.definition.specs.Orders.{Kind, FgBgImage, SetFgBgImage, SpecialFgBg1, SpecialFgBg2, White, Black, NoOrder}
-use Rattle.definition.specs.Decode.{Ink, solid, fg_ink, bg_ink, mask_ink, State, state, order_of}
+use Rattle.definition.specs.Decode.{Ink, solid, fg_ink, bg_ink, mask_ink, State, order_of}
 use Rattle.definition.specs.Plan.{refused, Counts, counts, behind, with_operands, run_counts, counts_of, leaves_insert, foreground_by, image_ink, kind_ink, leaves, insert_in, foreground_in}
 use Rattle.rle.specs.Planning.{counts_in}
 use Rattle.rle.specs.Painting.{Paintable, Painted, ink_of, MaskInks}

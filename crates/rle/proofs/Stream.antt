@@ -59,6 +59,12 @@ module _ (f : CodeFrame) (src dst : List ℕ) (s : CodeState) (begun : first_row
         invariant = d.invariant;
       }
 
+  -- and the order reads on
+  pub order_read : {o : OrderHead} → HeadAt src s.pos o → (after : List ℕ) (r : Stepped)
+      → Executes (frame_of f) src dst after (at_pos s o.next) r (order_of (frame_of f) (kind_of o.kind) o.run_length)
+      → Executes (frame_of f) src dst after s r (step (frame_of f)) × (s.pos < r.state.pos) × (s.pos < length src)
+  order_read at after r d = (order_executes at after r d, omega (arith, at.reads, d.reads), omega (arith, at.reads, at.place))
+
   -- its head was refused
   pub order-refused : {x : RleError} {next : ℕ} → RefusedAt src s.pos x next → Invariant (frame_of f) s
       → Executes (frame_of f) src dst dst s (refused_in x (at_pos s next)) (step (frame_of f))

@@ -4,7 +4,8 @@
 #![tactic(auto)]
 
 ghost use Rattle.std.specs.Prelude.{◌≡◌};
-ghost use Rattle.definition.specs.Decode.{result, summary_of};
+ghost use Rattle.definition.specs.Decode as decode_of;
+ghost use Rattle.definition.specs.Decode.{summary_of};
 ghost use Rattle.rle.specs.Report.{summary_in, Decompresses};
 ghost use Rattle.rle.specs.Walks.{FindsOrder};
 
@@ -34,7 +35,7 @@ use walk::{ending_by, found_by, walk_orders};
 
 // Decodes the stream `src` of a picture into the first bytes of `dst`, of which the bytes after the painted pixels stay.
 pub fn decompress(src: &[u8], dst: &mut [u8], width: usize, height: usize, bpp: usize) -> Report
-    ensures* { λ r. ⌜ Decompresses src.now bpp width height dst.old dst.new r ⌝ }
+    ensures { Decompresses src.now bpp width height dst.old dst.new result }
 {
     let size = picture_size(width, height, bpp);
     match size {
@@ -60,7 +61,7 @@ pub fn decompress(src: &[u8], dst: &mut [u8], width: usize, height: usize, bpp: 
 
 // What `decompress` reports of the stream in every target that has space, without one.
 pub fn count_orders(src: &[u8], width: usize, height: usize, bpp: usize) -> Report
-    ensures* { λ r. ⌜ summary_in r ≡ summary_of (result src.now bpp width height) ⌝ }
+    ensures { summary_in result ≡ summary_of (decode_of.result src.now bpp width height) }
 {
     let size = picture_size(width, height, bpp);
     match size {
@@ -90,7 +91,7 @@ pub fn count_orders(src: &[u8], width: usize, height: usize, bpp: usize) -> Repo
 // The order number n, from 0, of those that the stream completes from `from` on: its record, and the walk behind it. From the start of
 // a stream on they are those that `decompress` completes. Every walk may be gone on from, also one that no stream leads to.
 pub fn nth_order(src: &[u8], width: usize, height: usize, bpp: usize, from: Walk, n: usize) -> Found
-    ensures* { λ r. ⌜ FindsOrder src.now bpp width height from n r ⌝ }
+    ensures { FindsOrder src.now bpp width height from n result }
 {
     let size = picture_size(width, height, bpp);
     match size {

@@ -1,7 +1,6 @@
 -- `count_orders` meets its contract: refused for depth or sizes, or walked to the stream's end. Assumes nothing.
 use Prim.Native.Nat.{zero-le}
 use native.Mathlib.Omega.{arith}
-use borrow.Author.Rules.{rules}
 use Rattle.picture.proofs.Sizes.{matched, sized, few}
 use Rattle.rle.proofs.Calls.{good}
 use Rattle.rle.proofs.Counting.{counts-refused, counts_walked}

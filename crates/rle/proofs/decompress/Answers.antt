@@ -1,7 +1,6 @@
 -- `decompress` meets its contract: refused for depth or sizes, for its target, or decoded. Assumes nothing.
 use mathlib.Core.Path.{refl}
 use native.Mathlib.Omega.{arith}
-use borrow.Author.Rules.{rules}
 use Rattle.picture.proofs.Sizes.{matched, sized, few}
 use Rattle.rle.proofs.Calls.{reports_refused, reports_short, good, frame_good, reports_decoded}
 use Rattle.rle.proofs.decompress.Goals as goal

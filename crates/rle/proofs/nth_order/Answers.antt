@@ -1,6 +1,5 @@
 -- `nth_order` meets its contract: refused for depth or sizes, past the picture, or walked. Assumes nothing.
 use native.Mathlib.Omega.{arith}
-use borrow.Author.Rules.{rules}
 use Rattle.picture.proofs.Sizes.{matched, sized, few}
 use Rattle.rle.proofs.Calls.{good}
 use Rattle.rle.proofs.Finding.{finds-refused, finds_past, finds_walked}

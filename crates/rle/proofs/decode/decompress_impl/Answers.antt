@@ -1,15 +1,10 @@
 -- `decompress_impl` meets its contract. The invariant: what is left of the stream gives what the whole stream gives, and the first row
 -- does not end before the limit. The limit is raised once, so there are at most two turns. Assumes nothing.
-use mathlib.Core.Path.{◌≡◌, ◌∙◌}
-use mathlib.Core.Bool.{true}
-use Prim.Native.Nat.{◌+◌, ◌-◌, ◌≤◌}
+use mathlib.Core.Path.{◌∙◌}
 use native.Mathlib.Nat.{le_refl}
 use native.Mathlib.Omega.{arith}
-use Rattle.rle.specs.States.{frame_of}
-use Rattle.rle.specs.Orders.{BetweenOrders}
 use Rattle.rle.proofs.FirstRow.{row_begun}
 use Rattle.rle.proofs.Stream.{between_start, between_here, between_end, between_marked, decoded-refused, decoded_on}
-use borrow.Author.Rules.{rules}
 use Rattle.rle.proofs.decode.decompress_impl.Goals as goal
 
 pub loop-r-init : goal.loop-r-init

@@ -1,36 +1,11 @@
 -- `orders_to` meets its contract. The invariant: what is left of the stream gives what the whole stream gives, and the first row
 -- does not end before the limit. Assumes nothing.
-use mathlib.Core.Path.{◌≡◌, refl, sym, ◌∙◌}
-use mathlib.Core.Bool.{true}
-use Prim.Native.Nat.{◌-◌, ◌≤◌, ◌<◌}
+use mathlib.Core.Path.{refl, sym, ◌∙◌}
 use native.Mathlib.Nat.{le_refl}
-use lib.ListN.{length}
 use native.Mathlib.Omega.{arith}
-use Rattle.rle.specs.States.{frame_of}
-use Rattle.definition.specs.Decode.{step}
-use Rattle.rle.specs.Orders.{Executes, BetweenOrders}
 use Rattle.rle.proofs.FirstRow.{row_stays}
-use Rattle.rle.proofs.Stream.{invariant_at, order_executes, order-refused, between_refused, between_on}
-use borrow.Author.Rules.{rules}
+use Rattle.rle.proofs.Stream.{invariant_at, order_read, order-refused, between_refused, between_on}
 use Rattle.rle.proofs.decode.orders_to.Goals as goal
-
--- the order is the definition's step, and reads on
-executes : (c : tie.After-order invariant-loop decreases-loop)
-    → let l = c.before.before.before.before.before.before.before.before.before in
-    let a = l.before.before.before.args in
-    Executes (frame_of a.f) a.src.now l.loop.dst c.order.new.1.0 l.loop.t c.order.result (step (frame_of a.f))
-    × (l.loop.t.pos < c.order.result.state.pos)
-    × (l.loop.t.pos < length a.src.now)
-executes c =
-    let h = c.before.before.before.before in
-    let l = h.before.before.before.before.before.loop in
-    let s = h.before.before.before.before.before.before.before.before in
-    let at = rw h.h2.given.1 at h.before.before.read_head.ensures in
-    let d = rw c.before.moved2.ensures at c.order.ensures in (
-      order_executes s.args.f _ _ l.t (row_stays s.args.f _ (λ e. omega (arith, l.invariant.2 e))) at _ _ d,
-      omega (arith, at.reads, d.reads),
-      omega (arith, at.reads, at.place),
-    )
 
 pub loop-t-init : goal.loop-t-init
 loop-t-init c = (c.requires.between_orders, le_refl _, c.requires.limit_le_width)
@@ -38,17 +13,11 @@ loop-t-init c = (c.requires.between_orders, le_refl _, c.requires.limit_le_width
 pub read_head-h-requires : goal.read_head-h-requires
 read_head-h-requires c = c.requires.kinds_value
 
-pub shape_of-dst-in-End : goal.shape_of-dst-in-End
-shape_of-dst-in-End c = c.loop-t.invariant.0.same
-
 pub returns-in-End : goal.returns-in-End
 returns-in-End c =
     let i = c.loop-t.invariant in
     rw c.completed.ensures
     (record { grows = i.1; decoded = (i.0, λ _. rw c.in-End.is at c.read_head-h.ensures) })
-
-pub shape_of-dst-in-Refused : goal.shape_of-dst-in-Refused
-shape_of-dst-in-Refused c = c.loop-t.invariant.0.same
 
 pub returns-in-Refused : goal.returns-in-Refused
 returns-in-Refused c =
@@ -70,14 +39,13 @@ order-r-requires c =
     rw c.moved-in-Order.ensures
     (record { ready = record { frame = rw i.0.same c.requires.framed; invariant = invariant_at _ i.0.invariant; some = at.some; few = at.few }; pos_in_bounds = at.place; n_value = at.fixed })
 
-pub shape_of-dst-in-Refused-e : goal.shape_of-dst-in-Refused-e
-shape_of-dst-in-Refused-e c =
-    c.order-r.auto.dst ∙ c.loop-t.invariant.0.same
-
 pub returns-in-Refused-e : goal.returns-in-Refused-e
 returns-in-Refused-e c =
     let l = c.loop-t in
-    let d = executes t in
+    let at = rw c.in-Order.is at c.read_head-h.ensures in
+    let d =
+        order_read c.args.f _ _ c.loop-t.t (row_stays c.args.f _ (λ e. omega (arith, c.loop-t.invariant.2 e))) at _ _
+        (rw c.moved-in-Order.ensures at c.order-r.ensures) in
     record {
       grows = omega (arith, l.invariant.1, d.0.grows);
       decoded = between_refused _ _ _ _ _ l.invariant.0 d.2 _ _ d.0 _ _ c.in-Refused-e.is;
@@ -85,20 +53,23 @@ returns-in-Refused-e c =
 
 pub loop-t-smaller : goal.loop-t-smaller
 loop-t-smaller c =
-    let d = executes c.before.before.before.before.before in
+    let at = rw c.in-Order.is at c.read_head-h.ensures in
+    let d =
+        order_read c.args.f _ _ c.loop-t.t (row_stays c.args.f _ (λ e. omega (arith, c.loop-t.invariant.2 e))) at _ _
+        (rw c.moved-in-Order.ensures at c.order-r.ensures) in
     omega (arith, d.1, d.2)
 
 pub loop-t-preserved : goal.loop-t-preserved
 loop-t-preserved c =
     let i = c.loop-t.invariant in
-    let d = executes t in (
+    let at = rw c.in-Order.is at c.read_head-h.ensures in
+    let d =
+        order_read c.args.f _ _ c.loop-t.t (row_stays c.args.f _ (λ e. omega (arith, c.loop-t.invariant.2 e))) at _ _
+        (rw c.moved-in-Order.ensures at c.order-r.ensures) in (
       between_on _ _ _ _ _ i.0 d.2 _ _ d.0 c.in_default.is d.1 c.order-r.auto.dst,
       omega (arith, i.1, d.0.grows),
       λ e. i.2 (sym d.0.mark ∙ e),
     )
-
-pub shape_of-dst : goal.shape_of-dst
-shape_of-dst c = c.loop-t.invariant.0.same
 
 pub returns : goal.returns
 returns c =

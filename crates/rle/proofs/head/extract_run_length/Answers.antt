@@ -3,7 +3,6 @@ use mathlib.Core.Path.{sym}
 use native.Mathlib.Omega.{arith}
 use Rattle.definition.proofs.Headers.{mega_range, by_header}
 use Rattle.rle.proofs.Lengths.{own_read, reads_as, own_stands, byte_stands, two_stand}
-use borrow.Author.Rules.{rules}
 use Rattle.rle.proofs.head.extract_run_length.Goals as goal
 
 pub returns-then-n-gt0 : goal.returns-then-n-gt0

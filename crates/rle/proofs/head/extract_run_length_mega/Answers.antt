@@ -2,7 +2,6 @@
 use native.Mathlib.Omega.{arith}
 use Rattle.buf.proofs.Reading.{u8_is, u8_few}
 use Rattle.rle.proofs.Lengths.{mega_short, mega_read}
-use borrow.Author.Rules.{rules}
 use Rattle.rle.proofs.head.extract_run_length_mega.Goals as goal
 
 pub overflow_add-result : goal.overflow_add-result

@@ -3,7 +3,6 @@ use Prim.Native.Nat.{◌+◌}
 use native.Mathlib.Omega.{arith}
 use Rattle.buf.proofs.Reading.{u16_is, u16_few}
 use Rattle.rle.proofs.Lengths.{long_short, long-zero, long-is}
-use borrow.Author.Rules.{rules}
 use Rattle.rle.proofs.head.extract_run_length_mega_mega.Goals as goal
 
 pub returns-then-n-eq0 : goal.returns-then-n-eq0

@@ -2,7 +2,6 @@
 use native.Mathlib.Omega.{arith}
 use Rattle.buf.proofs.Reading.{u8_is, u8_few}
 use Rattle.rle.proofs.Heads.{head_read, head-refused}
-use borrow.Author.Rules.{rules}
 use Rattle.rle.proofs.head.read_head.Goals as goal
 
 pub returns-in_default : goal.returns-in_default

@@ -1,7 +1,6 @@
 -- `kind` meets its contract: an entry of the table is the definition's kind of that header. Assumes nothing.
 use Rattle.definition.specs.Codes.{kinds, kind_number}
 use Rattle.definition.proofs.Table.{get_d_tabulate}
-use borrow.Author.Rules.{rules}
 use Rattle.rle.proofs.header.kind.Goals as goal
 
 pub returns : goal.returns

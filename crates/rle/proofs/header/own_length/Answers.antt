@@ -1,7 +1,6 @@
 -- `own_length` meets its contract: an entry of the table is the definition's own length of that header. Assumes nothing.
 use Rattle.definition.specs.Codes.{lengths, length_number}
 use Rattle.definition.proofs.Table.{get_d_tabulate}
-use borrow.Author.Rules.{rules}
 use Rattle.rle.proofs.header.own_length.Goals as goal
 
 pub returns : goal.returns

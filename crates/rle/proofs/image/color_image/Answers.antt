@@ -5,7 +5,6 @@ use Rattle.definition.specs.Orders.{ColorImage}
 use Rattle.definition.specs.Plan.{counts_of, kind_ink, leaves, insert_in, foreground_in}
 use Rattle.rle.proofs.Painting.{painted-zero}
 use Rattle.rle.proofs.Orders.{within, fits, image-operands, executes_finished, has_place}
-use borrow.Author.Rules.{rules}
 use Rattle.rle.proofs.image.color_image.Goals as goal
 
 pub finished-requires : goal.finished-requires

@@ -6,7 +6,6 @@ use Rattle.rle.specs.Planning.{image_kind}
 use Rattle.base.proofs.Tests.{by_test}
 use Rattle.rle.proofs.Orders.{fits, fits_with, executes_finished}
 use Rattle.rle.proofs.Sharing.{image-leaves, image_inks, image_paintable}
-use borrow.Author.Rules.{rules}
 use Rattle.rle.proofs.image.fgbg_image.Goals as goal
 
 pub overflow_add-s : goal.overflow_add-s
@@ -16,8 +15,10 @@ overflow_add-s c =
 
 pub paint_masks-requires : goal.paint_masks-requires
 paint_masks-requires c =
-    image_paintable c.args.f c.args.src.now c.args.dst.now c.args.s (eqb c.args.kind 6) c.image_foreground-t.ensures c.fg_ink.ensures c.bg_ink.ensures c.foreground_size.ensures
-    c.requires.ready c.plan_fgbg_image-p.result c.plan_fgbg_image-p.ensures
+    let p =
+        image_paintable c.args.f c.args.src.now c.args.dst.now c.args.s (eqb c.args.kind 6) c.image_foreground-t.ensures c.fg_ink.ensures c.bg_ink.ensures c.foreground_size.ensures
+        c.requires.ready c.plan_fgbg_image-p.result c.plan_fgbg_image-p.ensures in
+    record { paintable = p.0; n_bound = p.1 }
 
 pub finished-requires : goal.finished-requires
 finished-requires c =

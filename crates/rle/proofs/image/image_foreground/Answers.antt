@@ -1,7 +1,6 @@
 -- `image_foreground` meets its contract: kind 6 has a foreground of its own. Assumes nothing.
 use borrow.Author.Tests.{eq-eqb, ne_eqb}
 use Rattle.definition.specs.Plan.{leaves, foreground_in}
-use borrow.Author.Rules.{rules}
 use Rattle.rle.proofs.image.image_foreground.Goals as goal
 
 pub returns-then-kind-eq6 : goal.returns-then-kind-eq6

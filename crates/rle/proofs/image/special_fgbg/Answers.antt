@@ -10,7 +10,6 @@ use Rattle.rle.proofs.Painting.{painted_as, painted_at}
 use Rattle.rle.proofs.Inks.{row-reach, mask_inks, state-masks}
 use Rattle.rle.proofs.Orders.{within, fits, executes_finished, paintable}
 use Rattle.rle.proofs.Sharing.{special_counts, special_leaves, special_few, special_whole, special_ink}
-use borrow.Author.Rules.{rules}
 use Rattle.rle.proofs.image.special_fgbg.Goals as goal
 
 pub paint_whole_masks-requires : goal.paint_whole_masks-requires

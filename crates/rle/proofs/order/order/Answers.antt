@@ -5,7 +5,6 @@ use Rattle.definition.specs.Orders.{rows, row}
 use Rattle.definition.specs.Codes.{kind_of, kind_row}
 use Rattle.rle.proofs.Numbers.{image-number, special_number, pixel-number}
 use Rattle.rle.proofs.Sharing.{executes_kind}
-use borrow.Author.Rules.{rules}
 use Rattle.rle.proofs.order.order.Goals as goal
 
 pub returns-then-kind-gt9 : goal.returns-then-kind-gt9

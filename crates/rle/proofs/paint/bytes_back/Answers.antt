@@ -1,7 +1,6 @@
 -- `bytes_back` meets its contract. Assumes nothing.
 use mathlib.Core.Path.{refl}
 use native.Mathlib.Omega.{arith}
-use borrow.Author.Rules.{rules}
 use Rattle.rle.proofs.paint.bytes_back.Goals as goal
 
 pub overflow_mul-result : goal.overflow_mul-result

@@ -2,7 +2,6 @@
 use native.Mathlib.Nat.{mul-le-mul_right}
 use native.Mathlib.Omega.{arith}
 use Rattle.rle.proofs.Parts.{part_above}
-use borrow.Author.Rules.{rules}
 use Rattle.rle.proofs.paint.paint_above.Goals as goal
 
 pub overflow_mul-row : goal.overflow_mul-row

@@ -1,6 +1,5 @@
 -- `paint_background` meets its contract: its call is that of the ink's mode. Assumes nothing.
 use Rattle.rle.proofs.Painting.{far, painted_mode}
-use borrow.Author.Rules.{rules}
 use Rattle.rle.proofs.paint.paint_background.Goals as goal
 
 pub paint_above-requires : goal.paint_above-requires

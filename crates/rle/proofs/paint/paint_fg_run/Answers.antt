@@ -1,6 +1,5 @@
 -- `paint_fg_run` meets its contract: nothing is painted, or what `paint_run` paints. Assumes nothing.
 use Rattle.rle.proofs.Painting.{painted-zero}
-use borrow.Author.Rules.{rules}
 use Rattle.rle.proofs.paint.paint_fg_run.Goals as goal
 
 pub returns-then-n-eq0 : goal.returns-then-n-eq0

@@ -1,6 +1,5 @@
 -- `paint_image` meets its contract: the parts that are lent hold the pixels. Assumes nothing.
 use Rattle.rle.proofs.Parts.{part_copied}
-use borrow.Author.Rules.{rules}
 use Rattle.rle.proofs.paint.paint_image.Goals as goal
 
 pub returns : goal.returns

@@ -3,7 +3,6 @@ use mathlib.Core.Path.{sym, ◌∙◌}
 use native.Mathlib.Omega.{arith}
 use Rattle.rle.proofs.Painting.{mask_row, painted_by_masks}
 use Rattle.rle.proofs.Parts.{few_masked}
-use borrow.Author.Rules.{rules}
 use Rattle.rle.proofs.paint.paint_mask_part.Goals as goal
 
 pub bytes_back-row-requires : goal.bytes_back-row-requires

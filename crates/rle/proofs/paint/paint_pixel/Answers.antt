@@ -1,7 +1,6 @@
 -- `paint_pixel` meets its contract: the three modes, each by one law of painting. Assumes nothing.
 use native.Mathlib.Omega.{arith}
 use Rattle.rle.proofs.Painting.{far, back_fits, one-solid, one-above, one_xor}
-use borrow.Author.Rules.{rules}
 use Rattle.rle.proofs.paint.paint_pixel.Goals as goal
 
 pub overflow_sub-k : goal.overflow_sub-k

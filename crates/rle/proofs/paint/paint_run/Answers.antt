@@ -2,7 +2,6 @@
 use mathlib.Core.Path.{sym}
 use native.Mathlib.Omega.{arith}
 use Rattle.rle.proofs.Painting.{painted_at, painted-one, front, far, painted_mode}
-use borrow.Author.Rules.{rules}
 use Rattle.rle.proofs.paint.paint_run.Goals as goal
 
 pub paint_pixel-requires : goal.paint_pixel-requires

@@ -2,7 +2,6 @@
 use mathlib.Core.Path.{◌≡◌, refl, sym}
 use native.Mathlib.Omega.{arith}
 use Rattle.rle.proofs.Painting.{painted-zero, painted_at, painted-one, one-stored}
-use borrow.Author.Rules.{rules}
 use Rattle.rle.proofs.paint.paint_single.Goals as goal
 
 pub returns-then-n-eq0 : goal.returns-then-n-eq0

@@ -4,7 +4,6 @@ use Prim.Native.Nat.{◌+◌, ◌*◌}
 use native.Mathlib.Omega.{arith}
 use Rattle.rle.proofs.Painting.{mask_row, painted_by_masks, at_most_bytes}
 use Rattle.rle.proofs.Parts.{part_masked, far_back}
-use borrow.Author.Rules.{rules}
 use Rattle.rle.proofs.paint.paint_whole_masks.Goals as goal
 
 pub bytes_back-row-requires : goal.bytes_back-row-requires

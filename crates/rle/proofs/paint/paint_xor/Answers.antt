@@ -2,7 +2,6 @@
 use native.Mathlib.Nat.{mul-le-mul_right}
 use native.Mathlib.Omega.{arith}
 use Rattle.rle.proofs.Parts.{part_xored}
-use borrow.Author.Rules.{rules}
 use Rattle.rle.proofs.paint.paint_xor.Goals as goal
 
 pub overflow_mul-row : goal.overflow_mul-row
@@ -15,4 +14,4 @@ overflow_sub-from c =
 
 pub returns : goal.returns
 returns c =
-    part_xored c.args.d c.args.w c.args.k c.args.n c.args.dst.now _ c.requires.has_place c.requires.le_w.0 c.requires.le_w.1 c.args.t6 c.requires.le_w.2 c.xor_back.ensures
+    part_xored c.args.d c.args.w c.args.k c.args.n c.args.dst.now _ c.requires.has_place c.requires.le_w.0 c.requires.le_w.1 c.args.p c.requires.le_w.2 c.xor_back.ensures

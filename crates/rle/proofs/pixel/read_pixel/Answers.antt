@@ -1,5 +1,4 @@
 -- `read_pixel` meets its contract: one, two or three bytes, by the depth. Assumes nothing.
-use borrow.Author.Rules.{rules}
 use native.Mathlib.Omega.{arith}
 use Rattle.picture.proofs.Pixels.{first_pixel_1, first_pixel_2, first_pixel_3}
 use Rattle.rle.proofs.pixel.read_pixel.Goals as goal

@@ -1,5 +1,4 @@
 -- `xor` meets its contract: three bytes, each by computation. Assumes nothing.
-use borrow.Author.Rules.{rules}
 use mathlib.Core.Path.{refl}
 use Rattle.picture.specs.Pixels.{xor_pixel}
 use Rattle.rle.proofs.pixel.xor.Goals as goal

@@ -4,7 +4,6 @@ use lib.Dec.{leb}
 use borrow.Author.Tests.{leb-false, le-leb}
 use Rattle.definition.specs.Plan.{behind, masks_for, image_counts}
 use Rattle.base.proofs.Tests.{both_true}
-use borrow.Author.Rules.{rules}
 use Rattle.rle.proofs.plan.image_behind.Goals as goal
 
 pub returns-then-ok : goal.returns-then-ok

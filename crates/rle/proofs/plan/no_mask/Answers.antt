@@ -1,6 +1,5 @@
 -- `no_mask` meets its contract: the definition's counts, as they are. Assumes nothing.
 use Rattle.definition.specs.Plan.{behind, no_mask}
-use borrow.Author.Rules.{rules}
 use Rattle.rle.proofs.plan.no_mask.Goals as goal
 
 pub returns : goal.returns

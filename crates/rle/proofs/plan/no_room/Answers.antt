@@ -2,7 +2,6 @@
 use native.Mathlib.Nat.{add-suc}
 use native.Mathlib.Numerals.{add-one}
 use Rattle.definition.specs.Plan.{behind, no_room}
-use borrow.Author.Rules.{rules}
 use Rattle.rle.proofs.plan.no_room.Goals as goal
 
 pub returns : goal.returns

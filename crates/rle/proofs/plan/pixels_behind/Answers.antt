@@ -2,7 +2,6 @@
 use native.Mathlib.Nat.{add-zero}
 use borrow.Author.Tests.{le-leb, lt-leb}
 use Rattle.definition.specs.Plan.{behind, run_counts}
-use borrow.Author.Rules.{rules}
 use Rattle.rle.proofs.plan.pixels_behind.Goals as goal
 
 pub returns-then-room-n : goal.returns-then-room-n

@@ -1,7 +1,6 @@
 -- `plan_color_image` meets its contract: the product is small. Assumes nothing.
 use native.Mathlib.Nat.{mul-le-mul}
 use native.Mathlib.Omega.{arith}
-use borrow.Author.Rules.{rules}
 use Rattle.rle.proofs.plan.plan_color_image.Goals as goal
 
 pub overflow_mul-n : goal.overflow_mul-n

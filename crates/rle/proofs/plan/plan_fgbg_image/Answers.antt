@@ -6,7 +6,6 @@ use borrow.Author.Tests.{le-leb, lt-leb}
 use Rattle.base.proofs.Tests.{by_test}
 use Rattle.definition.specs.Plan.{with_operands}
 use Rattle.definition.proofs.Planned.{image-counts}
-use borrow.Author.Rules.{rules}
 use Rattle.rle.proofs.plan.plan_fgbg_image.Goals as goal
 
 pub returns-then-left-size : goal.returns-then-left-size

@@ -1,6 +1,5 @@
 -- `plan_one_pixel` meets its contract: one case for each value of the test. Assumes nothing.
 use borrow.Author.Tests.{lt-ltb, le-ltb}
-use borrow.Author.Rules.{rules}
 use Rattle.rle.proofs.plan.plan_one_pixel.Goals as goal
 
 pub returns-then-kind-gt11 : goal.returns-then-kind-gt11

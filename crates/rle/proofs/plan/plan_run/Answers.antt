@@ -1,7 +1,6 @@
 -- `plan_run` meets its contract: nothing stands before the pixels. Assumes nothing.
 use native.Mathlib.Nat.{zero-add}
 use Rattle.definition.specs.Plan.{behind}
-use borrow.Author.Rules.{rules}
 use Rattle.rle.proofs.plan.plan_run.Goals as goal
 
 pub returns : goal.returns

@@ -1,7 +1,6 @@
 -- `too_large` meets its contract: both products are small. Assumes nothing.
 use native.Mathlib.Nat.{mul-le-mul}
 use native.Mathlib.Omega.{arith}
-use borrow.Author.Rules.{rules}
 use Rattle.rle.proofs.plan.too_large.Goals as goal
 
 pub overflow_mul-result : goal.overflow_mul-result

@@ -1,7 +1,6 @@
 -- `with_operands` meets its contract: the operands are there, or not. Assumes nothing.
 use borrow.Author.Tests.{le-leb, lt-leb}
 use Rattle.definition.specs.Plan.{with_operands}
-use borrow.Author.Rules.{rules}
 use Rattle.rle.proofs.plan.with_operands.Goals as goal
 
 pub returns-then-left-size : goal.returns-then-left-size

@@ -1,5 +1,4 @@
 -- `record_at` meets its contract: field by field. Assumes nothing.
-use borrow.Author.Rules.{rules}
 use Rattle.rle.proofs.record.record_at.Goals as goal
 
 pub returns : goal.returns

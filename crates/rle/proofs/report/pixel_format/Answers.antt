@@ -1,6 +1,5 @@
 -- `pixel_format` meets its contract: the four rows of the depth table. Assumes nothing.
 use Rattle.picture.proofs.Depths.{last_format}
-use borrow.Author.Rules.{rules}
 use Rattle.rle.proofs.report.pixel_format.Goals as goal
 
 pub returns-in_default : goal.returns-in_default

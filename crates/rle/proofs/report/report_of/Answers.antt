@@ -1,5 +1,4 @@
 -- `report_of` meets its contract: the format of a stream that ended, or the refusal. Assumes nothing.
-use borrow.Author.Rules.{rules}
 use Rattle.rle.proofs.report.report_of.Goals as goal
 
 pub returns-in-Complete : goal.returns-in-Complete

@@ -5,7 +5,6 @@ use Rattle.definition.specs.Orders.{BgRun}
 use Rattle.definition.specs.Plan.{counts_of, kind_ink, leaves, insert_in, foreground_in}
 use Rattle.rle.proofs.Inks.{row-reach, insert_inks, black_of_depth}
 use Rattle.rle.proofs.Orders.{within, fits, executes_finished, paintable}
-use borrow.Author.Rules.{rules}
 use Rattle.rle.proofs.run.bg_run.Goals as goal
 
 pub paint_bg_run-requires : goal.paint_bg_run-requires

@@ -5,7 +5,6 @@ use Rattle.definition.specs.Orders.{ColorRun}
 use Rattle.definition.specs.Plan.{counts_of, kind_ink, leaves, insert_in, foreground_in}
 use Rattle.rle.proofs.Painting.{painted-zero, painted_as, solid_paintable, solid-is, read_of_depth}
 use Rattle.rle.proofs.Orders.{within, fits, operands-read, executes_finished, has_place}
-use borrow.Author.Rules.{rules}
 use Rattle.rle.proofs.run.color_run.Goals as goal
 
 pub finished-requires : goal.finished-requires

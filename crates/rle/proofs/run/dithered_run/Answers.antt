@@ -10,7 +10,6 @@ use Rattle.definition.specs.Decode.{dither_ink}
 use Rattle.definition.specs.Plan.{counts_of, kind_ink, leaves, insert_in, foreground_in}
 use Rattle.rle.proofs.Painting.{painted-zero, painted_as, read_of_depth}
 use Rattle.rle.proofs.Orders.{within, fits, operands-read, pairs_even, executes_finished, has_place}
-use borrow.Author.Rules.{rules}
 use Rattle.rle.proofs.run.dithered_run.Goals as goal
 
 pub finished-requires : goal.finished-requires

@@ -6,7 +6,6 @@ use Rattle.definition.specs.Plan.{counts_of, kind_ink, leaves, insert_in, foregr
 use Rattle.rle.proofs.Painting.{painted_as}
 use Rattle.rle.proofs.Inks.{row-reach, fg-is}
 use Rattle.rle.proofs.Orders.{within, fits, executes_finished, paintable}
-use borrow.Author.Rules.{rules}
 use Rattle.rle.proofs.run.fg_run.Goals as goal
 
 pub paint_fg_run-requires : goal.paint_fg_run-requires

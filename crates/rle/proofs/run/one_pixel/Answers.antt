@@ -10,7 +10,6 @@ use Rattle.rle.proofs.Numbers.{pixel_plans}
 use Rattle.rle.proofs.Orders.{within, fits, executes_finished, has_place}
 use Rattle.rle.proofs.Sharing.{pixel-leaves, pixel-few, pixel_ink}
 use Rattle.rle.proofs.Inks.{black_of_depth}
-use borrow.Author.Rules.{rules}
 use Rattle.rle.proofs.run.one_pixel.Goals as goal
 
 pub paint_single-requires : goal.paint_single-requires

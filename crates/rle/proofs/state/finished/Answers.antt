@@ -1,6 +1,5 @@
 -- `finished` meets its contract: a refused order and a completed one. Assumes nothing.
 use Rattle.definition.specs.Plan.{insert_after, orders_after}
-use borrow.Author.Rules.{rules}
 use Rattle.rle.proofs.state.finished.Goals as goal
 
 pub returns-in-Refused : goal.returns-in-Refused

@@ -2,7 +2,6 @@
 use lib.ListN.{length-drop}
 use borrow.Author.Tests.{le-leb, lt-leb}
 use Rattle.definition.specs.Plan.{new_foreground}
-use borrow.Author.Rules.{rules}
 use Rattle.rle.proofs.state.new_foreground.Goals as goal
 
 pub returns-then-src-pos : goal.returns-then-src-pos

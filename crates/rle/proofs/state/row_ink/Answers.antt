@@ -1,5 +1,4 @@
 -- `row_ink` meets its contract: one case for each value of the first-row mark. Assumes nothing.
-use borrow.Author.Rules.{rules}
 use Rattle.rle.proofs.state.row_ink.Goals as goal
 
 pub returns-then-first : goal.returns-then-first

@@ -1,5 +1,4 @@
 -- `ending_by` meets its contract: one case for each way to stop. Assumes nothing.
-use borrow.Author.Rules.{rules}
 use Rattle.rle.proofs.walk.ending_by.Goals as goal
 
 pub returns-in-Refused : goal.returns-in-Refused

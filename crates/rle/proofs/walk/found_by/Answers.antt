@@ -1,5 +1,4 @@
 -- `found_by` meets its contract: one case for each way to stop. Assumes nothing.
-use borrow.Author.Rules.{rules}
 use Rattle.rle.proofs.walk.found_by.Goals as goal
 
 pub returns-in-Order : goal.returns-in-Order

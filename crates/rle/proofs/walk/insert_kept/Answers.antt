@@ -1,5 +1,4 @@
 -- `insert_kept` meets its contract: the row stays, ends, or has ended before. Assumes nothing.
-use borrow.Author.Rules.{rules}
 use borrow.Author.Tests.{lt-ltb, le-ltb}
 use Rattle.rle.proofs.walk.insert_kept.Goals as goal
 

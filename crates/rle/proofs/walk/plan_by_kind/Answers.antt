@@ -1,6 +1,5 @@
 -- `plan_by_kind` meets its contract: each arm plans the kind of its number. Assumes nothing.
 use mathlib.Core.Path.{◌∙◌}
-use borrow.Author.Rules.{rules}
 use Rattle.definition.specs.Orders.{rows, row}
 use Rattle.definition.specs.Codes.{kind_row, kind_of}
 use Rattle.definition.specs.Plan.{counts_of}

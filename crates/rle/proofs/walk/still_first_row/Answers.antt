@@ -1,5 +1,4 @@
 -- `still_first_row` meets its contract: one case for each value of the mark. Assumes nothing.
-use borrow.Author.Rules.{rules}
 use Rattle.rle.proofs.walk.still_first_row.Goals as goal
 
 pub returns-then-first : goal.returns-then-first

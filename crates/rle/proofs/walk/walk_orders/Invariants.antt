@@ -1,11 +1,9 @@
 -- `walk_orders` meets its contract: from each state that the walk stands for, the orders left are those that the orders from the first
 -- state leave. Assumes nothing.
 use Prim.Native.Nat.{◌-◌}
-use native.Mathlib.Omega.{arith}
 use lib.ListN.{length}
-use borrow.Author.Rules.{rules}
 use Rattle.rle.specs.States.{frame_of}
-use Rattle.rle.proofs.Walks.{WalkedTo, enough, order-refused, order-completed, record_walked, head-refused, walked_start, walked_end, walked_refused, walked_order, walked_on}
+use Rattle.rle.proofs.Walks.{WalkedTo}
 use Rattle.rle.proofs.walk.walk_orders.Given as goal
 
 abbrev pub invariant-loop-e : goal.invariant-loop-e

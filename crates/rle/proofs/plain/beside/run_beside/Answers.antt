@@ -1,5 +1,4 @@
 -- `run_beside` meets its contract: both targets are painted the same. Assumes nothing.
-use borrow.Author.Rules.{rules}
 use Rattle.rle.proofs.Painting.{painted_same}
 use Rattle.rle.proofs.plain.beside.run_beside.Goals as goal
 

@@ -5,7 +5,6 @@ use lib.ListN.{length-drop}
 use borrow.Author.Tests.{le-leb, lt-leb}
 use Rattle.definition.specs.Plan.{new_foreground}
 use Rattle.rle.proofs.Operands.{foreground-number, foreground_own}
-use borrow.Author.Rules.{rules}
 use Rattle.rle.proofs.plain.order.order_foreground.Goals as goal
 
 pub returns-then-kind-lt5 : goal.returns-then-kind-lt5

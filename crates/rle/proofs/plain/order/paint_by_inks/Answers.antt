@@ -1,5 +1,4 @@
 -- `paint_by_inks` meets its contract: each arm paints with the ink of its kind's number. Assumes nothing.
--- the two inks can be painted
 use mathlib.Core.Logic.{inl, inr}
 use Prim.Native.Nat.{ℕ, ◌≤◌}
 use native.Mathlib.Omega.{arith}
@@ -8,25 +7,15 @@ use Rattle.base.proofs.Tests.{by_test}
 use Rattle.definition.specs.Orders.{rows, row}
 use Rattle.definition.specs.Codes.{kind_row, kind_of}
 use Rattle.definition.specs.Plan.{kind_ink}
-use Rattle.rle.specs.Painting.{Paintable}
 use Rattle.rle.proofs.Numbers.{special_number}
 use Rattle.rle.proofs.Operands.{fg-painted, masks-painted, special_painted}
-use borrow.Author.Rules.{rules}
 use Rattle.rle.proofs.plain.order.paint_by_inks.Goals as goal
 
-inks : (c : tie.After-row-ink2)
-    → let a = c.before.before.before.before.before.before.before.args in
-    Paintable a.f.depth.bytes a.f.width a.s.pixels a.n a.dst.now c.before.row-ink.result
-    × Paintable a.f.depth.bytes a.f.width a.s.pixels a.n a.dst.now c.row-ink2.result
-inks c =
-    let r = c.before.before.before.before.before.before.before.requires.0 in
-    (rw c.before.row-ink.ensures r.fg, rw c.row-ink2.ensures r.bg)
-
 pub paint_bg_run-requires : goal.paint_bg_run-requires
-paint_bg_run-requires c = inks c.before.before
+paint_bg_run-requires c = record { paintable = rw c.row_ink-fg.ensures c.requires.ready_to_paint.fg; paintable_2 = rw c.row_ink-bg.ensures c.requires.ready_to_paint.bg }
 
 pub paint_run-requires : goal.paint_run-requires
-paint_run-requires c = (inks c.before.before).0
+paint_run-requires c = rw c.row_ink-fg.ensures c.requires.ready_to_paint.fg
 
 pub overflow_add-s : goal.overflow_add-s
 overflow_add-s c =
@@ -35,11 +24,10 @@ overflow_add-s c =
 
 pub paint_masks-requires : goal.paint_masks-requires
 paint_masks-requires c =
-    let i = inks m.before in
-    record { paintable = i.0; paintable_2 = i.1; n_bound = rw c.foreground_size.ensures (omega (arith, c.requires.ready_to_paint.operands.masks c.in-2.is)) }
+    record { paintable = rw c.row_ink-fg.ensures c.requires.ready_to_paint.fg; paintable_2 = rw c.row_ink-bg.ensures c.requires.ready_to_paint.bg; n_bound = rw c.foreground_size.ensures (omega (arith, c.requires.ready_to_paint.operands.masks c.in-2.is)) }
 
 pub paint_mask-requires : goal.paint_mask-requires
-paint_mask-requires c = inks c.before.before.before
+paint_mask-requires c = record { paintable = rw c.row_ink-fg.ensures c.requires.ready_to_paint.fg; paintable_2 = rw c.row_ink-bg.ensures c.requires.ready_to_paint.bg }
 
 pub returns-in-0 : goal.returns-in-0
 unfolding kind_ink kind_of kind_row rows row

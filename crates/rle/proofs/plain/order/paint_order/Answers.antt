@@ -7,7 +7,6 @@ use Rattle.definition.specs.Codes.{kind_row, kind_of}
 use Rattle.definition.specs.Plan.{kind_ink}
 use Rattle.rle.proofs.Painting.{painted-zero, solid_paintable, read_of_depth, turn-pixel}
 use Rattle.rle.proofs.Operands.{place_of, pixel-painted}
-use borrow.Author.Rules.{rules}
 use Rattle.rle.proofs.plain.order.paint_order.Goals as goal
 
 pub returns-then-n-eq0 : goal.returns-then-n-eq0

@@ -5,7 +5,6 @@ use Prim.Native.Nat.{◌+◌, ◌-◌}
 use Rattle.rle.specs.Painting.{ink_of}
 use Rattle.rle.proofs.Painting.{painted-zero, painted_as, painted_at, painted_join, painted-one, one_as, part, front, at_most_bytes, insert-none, insert-first, insert_later}
 use native.Mathlib.Omega.{arith}
-use borrow.Author.Rules.{rules}
 use Rattle.rle.proofs.plain.paint.paint_bg_run.Goals as goal
 
 pub returns-then-n-eq0 : goal.returns-then-n-eq0

@@ -1,11 +1,8 @@
 -- `paint_dithered` meets its contract. The invariant: i pixels are painted, and `to` is the place of the next one. Assumes nothing.
-use Prim.Native.Nat.{ℕ, ◌+◌, ◌-◌, ◌*◌, ◌%◌, ◌≤◌}
+use Prim.Native.Nat.{◌%◌}
 use mathlib.Core.Path.{◌≡◌, refl, ◌∙◌}
 use lib.Dec.{eqb}
-use lib.ListN.{length}
 use native.Mathlib.Omega.{arith}
-use Rattle.definition.specs.Decode.{dither_ink}
-use Rattle.rle.specs.Painting.{Painted}
 use Rattle.rle.proofs.Painting.{painted-none, painted_more, painted_at, one-stored, one_place, turn-pixel, dither_solid}
 use Rattle.rle.proofs.plain.paint.paint_dithered.Goals as goal
 

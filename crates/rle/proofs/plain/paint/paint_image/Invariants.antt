@@ -1,14 +1,11 @@
 -- `paint_image` meets its contract. The invariant: i pixels are painted, and `from` and `to` are the places of the next one. Assumes
 -- nothing.
 use Prim.Native.Nat.{ℕ, ◌+◌, ◌-◌, ◌*◌, ◌≤◌}
-use mathlib.Core.Path.{◌≡◌, refl, ◌∙◌}
+use mathlib.Core.Path.{◌≡◌}
 use lib.ListN.{length, drop}
-use native.Mathlib.Omega.{arith}
 use Rattle.picture.specs.Pixels.{pixel_at}
-use Rattle.picture.proofs.Pixels.{of_depth}
 use Rattle.definition.specs.Decode.{solid}
 use Rattle.rle.specs.Painting.{Painted}
-use Rattle.rle.proofs.Painting.{painted-none, painted_more, painted_at, one-stored, one_place, image-solid, image-fits}
 use Rattle.rle.proofs.plain.paint.paint_image.Given as goal
 
 abbrev pub invariant-loop-i : goal.invariant-loop-i

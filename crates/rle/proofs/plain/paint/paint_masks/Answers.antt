@@ -1,10 +1,8 @@
 -- `paint_masks` meets its contract. The invariant: i pixels are painted, by whole masks where any are left to paint. Assumes nothing.
 use mathlib.Core.Path.{◌≡◌, refl, ◌∙◌}
-use Prim.Native.Nat.{◌+◌, ◌-◌, ◌%◌, ◌≤◌, ◌<◌}
-use lib.ListN.{length, drop}
+use Prim.Native.Nat.{◌+◌, ◌%◌, ◌≤◌}
 use native.Mathlib.Omega.{arith}
-use Rattle.definition.specs.Plan.{image_ink}
-use Rattle.rle.specs.Painting.{Painted, ink_of}
+use Rattle.rle.specs.Painting.{ink_of}
 use Rattle.rle.proofs.Painting.{painted-none, painted_join, painted_as, painted_at, at_most_bytes, part, mask_in_image}
 use Rattle.rle.proofs.plain.paint.paint_masks.Goals as goal
 

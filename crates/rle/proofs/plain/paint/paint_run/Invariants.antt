@@ -1,11 +1,8 @@
 -- `paint_run` meets its contract. The invariant: i pixels are painted. Assumes nothing.
-use borrow.Author.Rules.{rules}
-use Prim.Native.Nat.{◌+◌, ◌-◌, ◌≤◌}
-use mathlib.Core.Path.{◌≡◌, refl, ◌∙◌}
+use Prim.Native.Nat.{◌-◌, ◌≤◌}
+use mathlib.Core.Path.{◌≡◌}
 use lib.ListN.{length}
-use native.Mathlib.Omega.{arith}
 use Rattle.rle.specs.Painting.{Painted, ink_of}
-use Rattle.rle.proofs.Painting.{painted-none, painted_more, painted_at, at_most_bytes, part}
 use Rattle.rle.proofs.plain.paint.paint_run.Given as goal
 
 abbrev pub invariant-loop-i : goal.invariant-loop-i
