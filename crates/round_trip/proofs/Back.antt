@@ -26,7 +26,7 @@ use Rattle.encoding.proofs.Bound.{bound_holds}
 use Rattle.encoding.proofs.RoundTrip.{encoded-back, bytes_back}
 use Rattle.encode.specs.declared.Compressed.{Compressed}
 use Rattle.encode.specs.Promises.{refusal_in, length_in, Compresses}
-use Rattle.round_trip.specs.Guarantee.{is_accepted, HasPicture, size, ComesBack}
+use Rattle.round_trip.specs.Guarantee.{is_accepted, HasPicture, ComesBack}
 
 -- ---- depth and sizes
 

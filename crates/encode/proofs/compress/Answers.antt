@@ -1,8 +1,7 @@
 -- `compress` meets its contract: refused for depth, sizes, the pixel buffer or the output, or written. Assumes nothing.
 use mathlib.Core.Path.{refl, sym, ◌∙◌}
 use native.Mathlib.Omega.{arith}
-use borrow.Author.Rules.{rules}
-use borrow.Author.Tests.{leb-true, not-true, not-false}
+use borrow.Author.Tests.{leb-true}
 use Rattle.picture.proofs.Sizes.{matched, sized, few}
 use Rattle.encode.proofs.Answers.{answers-refused, answers_short, laid_out, answers-long, answers-written}
 use Rattle.encode.proofs.compress.Goals as goal

@@ -1,7 +1,6 @@
 -- `compress_bound` meets its contract. Assumes nothing.
 use Prim.Native.Nat.{◌*◌}
 use native.Mathlib.Omega.{arith}
-use borrow.Author.Rules.{rules}
 use Rattle.picture.proofs.Sizes.{matched, sized, few, few_bytes}
 use Rattle.encode.proofs.Answers.{bound-refused, bound_good}
 use Rattle.encode.proofs.Streams.{overhead-few}

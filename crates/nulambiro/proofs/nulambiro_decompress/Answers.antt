@@ -1,7 +1,6 @@
 -- `nulambiro_decompress` meets its contract: the numbers of the report that `decompress` promises. Assumes nothing.
 use mathlib.Core.Path.{ap, ◌∙◌}
 use Rattle.nulambiro.specs.Numbers.{numbers, target}
-use borrow.Author.Rules.{rules}
 use Rattle.nulambiro.proofs.nulambiro_decompress.Goals as goal
 
 pub returns : goal.returns

@@ -1,6 +1,5 @@
 -- `report_numbers` meets its contract: the report's numbers, one by one. Assumes nothing.
 use Rattle.nulambiro.specs.Numbers.{numbers}
-use borrow.Author.Rules.{rules}
 use Rattle.nulambiro.proofs.report_numbers.Goals as goal
 
 pub returns : goal.returns

@@ -1,5 +1,4 @@
 -- `decode_and_look` meets its contract: what both calls promise, and the theorem that follows. Assumes nothing.
-use borrow.Author.Rules.{rules}
 use Rattle.orders.proofs.Looking.{counts-orders}
 use Rattle.orders.proofs.decode_and_look.Goals as goal
 

@@ -1,6 +1,5 @@
 -- `order_record` meets its contract: what a walk from the stream's start finds. Assumes nothing.
 use mathlib.Core.Path.{ap, sym, ◌∙◌}
-use borrow.Author.Rules.{rules}
 use Rattle.orders.proofs.Looking.{recorded_by, recorded-told}
 use Rattle.orders.proofs.order_record.Goals as goal
 

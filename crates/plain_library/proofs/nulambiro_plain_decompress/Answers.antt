@@ -1,7 +1,6 @@
 -- `nulambiro_plain_decompress` meets its contract: it tells the pixels of the report. Assumes nothing.
 use mathlib.Core.Path.{ap}
 use Rattle.definition.specs.Decode.{Summary}
-use borrow.Author.Rules.{rules}
 use Rattle.plain_library.proofs.nulambiro_plain_decompress.Goals as goal
 
 pub returns : goal.returns

@@ -2,7 +2,6 @@
 use mathlib.Core.Path.{sym}
 use native.Mathlib.Omega.{arith}
 use lib.Seq.{length-take-le}
-use borrow.Author.Rules.{rules}
 use Rattle.round_trip.proofs.Back.{length-inside, not_refused, comes_back}
 use Rattle.round_trip.proofs.encode_and_decode.Goals as goal
 
@@ -26,7 +25,11 @@ pub returns : goal.returns
 returns c =
     let a = c.args in
     let e = c.compress-answer.ensures in
-    let d = rw c.stream_length-n.ensures at c.decompress-report.ensures in record { compresses = e; decompresses = d; round_trip = record {
-          written = not_refused a.src.now a.bpp a.width a.height _ _ _ e;
-          back = comes_back a.src.now a.bpp a.width a.height _ _ _ e _ _ _ d;
-        } }
+    let d = rw c.stream_length-n.ensures at c.decompress-report.ensures in record {
+      compresses = e;
+      decompresses = d;
+      round_trip = record {
+        written = not_refused a.src.now a.bpp a.width a.height _ _ _ e;
+        back = comes_back a.src.now a.bpp a.width a.height _ _ _ e _ _ _ d;
+      };
+    }

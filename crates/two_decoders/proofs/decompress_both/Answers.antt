@@ -1,6 +1,5 @@
 -- `decompress_both` meets its contract: what the two calls promise, and the theorem that follows. Assumes nothing.
 use Rattle.rle.proofs.Theorems.{same_decoding}
-use borrow.Author.Rules.{rules}
 use Rattle.two_decoders.proofs.decompress_both.Goals as goal
 
 pub returns : goal.returns

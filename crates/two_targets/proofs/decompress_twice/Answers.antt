@@ -1,6 +1,5 @@
 -- `decompress_twice` meets its contract: what two calls of `decompress` promise, and the theorem that follows. Assumes nothing.
 use Rattle.rle.proofs.Theorems.{no_old_byte}
-use borrow.Author.Rules.{rules}
 use Rattle.two_targets.proofs.decompress_twice.Goals as goal
 
 pub returns : goal.returns

@@ -1,5 +1,4 @@
 -- `same_back` meets its contract: the last blocks are of one byte, so they reach the stretch's end. Assumes nothing.
-use borrow.Author.Rules.{rules}
 use mathlib.Core.Path.{refl}
 use Rattle.encode.proofs.bytes.same_back.Goals as goal
 

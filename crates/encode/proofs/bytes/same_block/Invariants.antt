@@ -1,14 +1,10 @@
 -- `same_block` meets its contract. The invariant: the gathered differences are none exactly if the bytes passed are the same. Assumes
 -- nothing.
-use borrow.Author.Rules.{rules}
 use Prim.Native.Nat.{◌-◌, ◌≤◌}
-use mathlib.Core.Path.{◌≡◌, sym}
-use native.Mathlib.Omega.{arith}
+use mathlib.Core.Path.{◌≡◌}
 use lib.Dec.{eqb}
 use Rattle.encoding.specs.Encode.{stretch}
-use Rattle.encoding.proofs.Stretches.{whole_none}
 use Rattle.encode.specs.Bytes.{same_back}
-use Rattle.encode.proofs.Comparing.{gathered_more}
 use Rattle.encode.proofs.bytes.same_block.Given as goal
 
 abbrev pub invariant-loop-i : goal.invariant-loop-i

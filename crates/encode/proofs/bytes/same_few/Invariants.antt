@@ -1,14 +1,10 @@
 -- `same_few` meets its contract. The invariant: the bytes passed are the same. Assumes nothing.
-use borrow.Author.Rules.{rules}
 use Prim.Native.Nat.{◌-◌, ◌≤◌}
-use mathlib.Core.Path.{◌≡◌, sym}
+use mathlib.Core.Path.{◌≡◌}
 use mathlib.Core.Bool.{true}
-use native.Mathlib.Omega.{arith}
 use lib.Dec.{eqb}
 use Rattle.encoding.specs.Encode.{stretch}
-use Rattle.encoding.proofs.Stretches.{whole_none}
 use Rattle.encode.specs.Bytes.{same_back}
-use Rattle.encode.proofs.Comparing.{byte_agrees, byte_differs}
 use Rattle.encode.proofs.bytes.same_few.Given as goal
 
 abbrev pub invariant-loop-i : goal.invariant-loop-i

@@ -1,13 +1,7 @@
 -- `same_in_blocks` meets its contract. The invariant: the bytes passed belong to the stretch. Assumes nothing.
-use borrow.Author.Rules.{rules}
 use Prim.Native.Nat.{◌-◌, ◌≤◌}
-use mathlib.Core.Path.{sym, ◌∙◌}
-use native.Mathlib.Omega.{arith}
-use borrow.Author.Tests.{not-true, not-false}
 use Rattle.encoding.specs.Encode.{stretch}
-use Rattle.encoding.proofs.Stretches.{stretch_le}
 use Rattle.encode.specs.Bytes.{same_back}
-use Rattle.encode.proofs.Comparing.{block_agrees, block_differs, blocks_end}
 use Rattle.encode.proofs.bytes.same_in_blocks.Given as goal
 
 abbrev pub invariant-loop-i : goal.invariant-loop-i

@@ -1,5 +1,4 @@
 -- `put_head` meets its contract, in each form of the length. Assumes nothing.
-use borrow.Author.Rules.{rules}
 use native.Mathlib.Omega.{arith}
 use lib.ListN.{length-set}
 use Rattle.encoding.proofs.HeadLengths.{head_short, head-one, head_two}

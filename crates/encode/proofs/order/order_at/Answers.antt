@@ -1,5 +1,4 @@
 -- `order_at` meets its contract: each way of its tests is one of the rule's. Assumes nothing.
-use borrow.Author.Rules.{rules}
 use native.Mathlib.Omega.{arith}
 use Rattle.picture.proofs.Pixels.{length-pixels_of}
 use Rattle.encode.specs.Layouts.{pixels_in}

@@ -1,5 +1,4 @@
 -- `put_order` meets its contract. Assumes nothing.
-use borrow.Author.Rules.{rules}
 use native.Mathlib.Omega.{arith}
 use Rattle.encode.proofs.Places.{small}
 use Rattle.encode.proofs.OrderBytes.{head_shorter}

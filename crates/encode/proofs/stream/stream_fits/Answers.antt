@@ -1,5 +1,4 @@
 -- `stream_fits` meets its contract: no stream is longer than the bound. Assumes nothing.
-use borrow.Author.Rules.{rules}
 use mathlib.Core.Path.{sym}
 use native.Mathlib.Omega.{arith}
 use lib.ListN.{length}

@@ -1,13 +1,11 @@
 -- `stream_len` meets its contract. The invariant: what is counted so far and the rest are the stream. Assumes nothing.
-use borrow.Author.Rules.{rules}
-use mathlib.Core.Path.{◌≡◌, ap}
-use Prim.Native.Nat.{◌+◌, ◌-◌, ◌≤◌}
+use mathlib.Core.Path.{ap}
 use native.Mathlib.Nat.{zero-add}
 use native.Mathlib.Omega.{arith}
 use lib.ListN.{length}
 use Rattle.picture.proofs.Pixels.{length-pixels_of}
-use Rattle.encoding.proofs.Rest.{rest, rest_all, rest_end}
-use Rattle.encode.specs.Layouts.{pixels_in, stream_in}
+use Rattle.encoding.proofs.Rest.{rest_all, rest_end}
+use Rattle.encode.specs.Layouts.{pixels_in}
 use Rattle.encode.proofs.Streams.{placed, stream_small, counted_more}
 use Rattle.encode.proofs.stream.stream_len.Goals as goal
 

@@ -1,14 +1,9 @@
 -- `stream_len` meets its contract. The invariant: what is counted so far and the rest are the stream. Assumes nothing.
-use borrow.Author.Rules.{rules}
-use mathlib.Core.Path.{◌≡◌, ap}
+use mathlib.Core.Path.{◌≡◌}
 use Prim.Native.Nat.{◌+◌, ◌-◌, ◌≤◌}
-use native.Mathlib.Nat.{zero-add}
-use native.Mathlib.Omega.{arith}
 use lib.ListN.{length}
-use Rattle.picture.proofs.Pixels.{length-pixels_of}
-use Rattle.encoding.proofs.Rest.{rest, rest_all, rest_end}
+use Rattle.encoding.proofs.Rest.{rest}
 use Rattle.encode.specs.Layouts.{pixels_in, stream_in}
-use Rattle.encode.proofs.Streams.{placed, stream_small, counted_more}
 use Rattle.encode.proofs.stream.stream_len.Given as goal
 
 abbrev pub invariant-loop-k : goal.invariant-loop-k

@@ -1,11 +1,10 @@
 -- `write_stream` meets its contract. The invariant: the stream is written up to a place, and the rest is still to come. Assumes nothing.
 use mathlib.Core.Path.{refl, sym}
-use Prim.Native.Nat.{◌-◌, ◌≤◌}
 use native.Mathlib.Omega.{arith}
 use Rattle.picture.proofs.Pixels.{length-pixels_of}
-use Rattle.encoding.proofs.Rest.{rest, rest_all, rest_end}
+use Rattle.encoding.proofs.Rest.{rest_all, rest_end}
 use Rattle.encode.specs.Layouts.{pixels_in, stream_in}
-use Rattle.encode.proofs.Streams.{Begun, begun_length, begun_all, placed, order-room, order_begun}
+use Rattle.encode.proofs.Streams.{begun_length, begun_all, placed, order-room, order_begun}
 use Rattle.encode.proofs.stream.write_stream.Goals as goal
 
 pub loop-k-init : goal.loop-k-init
@@ -66,6 +65,6 @@ returns c =
     let p = c.requires in
     let l = c.loop-k in
     let w =
-        begun_all (stream_in a.f a.src.now) a.dst.now p.1 l.dst l.at
-        (rw (rest_end a.f.width (pixels_in a.f a.src.now) a.f.bytes l.k l.after (rw length-pixels_of (omega arith))) at l.invariant.1) in
+    begun_all (stream_in a.f a.src.now) a.dst.now p.1 l.dst l.at
+    (rw (rest_end a.f.width (pixels_in a.f a.src.now) a.f.bytes l.k l.after (rw length-pixels_of (omega arith))) at l.invariant.1) in
     record { value = w.0; dst_after = w.1 }

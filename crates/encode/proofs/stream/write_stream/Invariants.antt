@@ -1,11 +1,8 @@
 -- `write_stream` meets its contract. The invariant: the stream is written up to a place, and the rest is still to come. Assumes nothing.
-use mathlib.Core.Path.{refl, sym}
 use Prim.Native.Nat.{◌-◌, ◌≤◌}
-use native.Mathlib.Omega.{arith}
-use Rattle.picture.proofs.Pixels.{length-pixels_of}
-use Rattle.encoding.proofs.Rest.{rest, rest_all, rest_end}
+use Rattle.encoding.proofs.Rest.{rest}
 use Rattle.encode.specs.Layouts.{pixels_in, stream_in}
-use Rattle.encode.proofs.Streams.{Begun, begun_length, begun_all, placed, order-room, order_begun}
+use Rattle.encode.proofs.Streams.{Begun}
 use Rattle.encode.proofs.stream.write_stream.Given as goal
 
 abbrev pub invariant-loop-k : goal.invariant-loop-k

@@ -1,6 +1,4 @@
 -- `above_at` meets its contract. Assumes nothing.
-use borrow.Author.Rules.{rules}
-use Prim.Native.Nat.{◌-◌}
 use native.Mathlib.Omega.{arith}
 use Rattle.encode.proofs.Places.{small, inside}
 use Rattle.encode.proofs.Starts.{above-none, above-found}

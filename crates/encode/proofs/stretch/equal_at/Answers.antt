@@ -1,5 +1,4 @@
 -- `equal_at` meets its contract. Assumes nothing.
-use borrow.Author.Rules.{rules}
 use Prim.Native.Nat.{◌+◌, ◌-◌}
 use native.Mathlib.Omega.{arith}
 use Rattle.encode.proofs.Places.{small, inside_one}

@@ -1,14 +1,9 @@
 -- `image_at` meets its contract. The invariant: no run starts at the pixels passed but the first. Assumes nothing.
-use borrow.Author.Rules.{rules}
-use mathlib.Core.Path.{◌≡◌, sym, ◌∙◌}
+use mathlib.Core.Path.{◌≡◌}
 use mathlib.Core.Bool.{true, false}
 use Prim.Native.Nat.{ℕ, ◌+◌, ◌-◌, ◌≤◌, ◌<◌}
-use native.Mathlib.Omega.{arith}
-use borrow.Author.Tests.{not-true, not-false}
-use Rattle.base.proofs.Tests.{before_or_last}
 use Rattle.encoding.specs.Encode.{start_at, is_none}
 use Rattle.encode.specs.Layouts.{pixels_in}
-use Rattle.encode.proofs.Starts.{image-is}
 use Rattle.encode.proofs.stretch.image_at.Given as goal
 
 abbrev pub invariant-loop-n : goal.invariant-loop-n

@@ -1,7 +1,6 @@
 -- `no_run_at` meets its contract: its tests are those for three equal pixels and for three equal to those above. Assumes nothing.
-use borrow.Author.Rules.{rules}
 use mathlib.Core.Path.{sym, ◌∙◌}
-use Prim.Native.Nat.{◌+◌, ◌-◌}
+use Prim.Native.Nat.{◌+◌}
 use native.Mathlib.Omega.{arith}
 use Rattle.encode.proofs.Places.{small, inside, inside_one}
 use Rattle.encode.proofs.Starts.{none_short, none_equal, none_first, none_above}

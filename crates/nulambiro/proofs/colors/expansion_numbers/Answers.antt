@@ -1,5 +1,4 @@
 -- `expansion_numbers` meets its contract, in each case of the outcome. Assumes nothing.
-use borrow.Author.Rules.{rules}
 use Rattle.nulambiro.specs.ColorNumbers.{numbers_of}
 use Rattle.nulambiro.proofs.colors.expansion_numbers.Goals as goal
 

@@ -1,5 +1,4 @@
 -- `nulambiro_expand` meets its contract: it hands on what `expand` answers. Assumes nothing.
-use borrow.Author.Rules.{rules}
 use Rattle.nulambiro.specs.ColorNumbers.{numbers_of, expansion_numbers}
 use Rattle.nulambiro.proofs.colors.nulambiro_expand.Goals as goal
 

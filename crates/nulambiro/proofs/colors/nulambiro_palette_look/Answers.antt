@@ -1,5 +1,4 @@
 -- `nulambiro_palette_look` meets its contract: each answer has its number. Assumes nothing.
-use borrow.Author.Rules.{rules}
 use mathlib.Core.Path.{ap, sym, ◌∙◌}
 use Rattle.nulambiro.specs.ColorNumbers.{index_number}
 use Rattle.nulambiro.proofs.colors.nulambiro_palette_look.Goals as goal

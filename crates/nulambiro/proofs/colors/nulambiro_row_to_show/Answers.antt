@@ -1,5 +1,4 @@
 -- `nulambiro_row_to_show` meets its contract: it hands on the part that `part_to_show` names. Assumes nothing.
-use borrow.Author.Rules.{rules}
 use Rattle.nulambiro.specs.ColorNumbers.{part_numbers}
 use Rattle.nulambiro.proofs.colors.nulambiro_row_to_show.Goals as goal
 

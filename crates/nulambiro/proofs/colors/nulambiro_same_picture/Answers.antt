@@ -1,5 +1,4 @@
 -- `nulambiro_same_picture` meets its contract: it hands on what `same_picture` answers. Assumes nothing.
-use borrow.Author.Rules.{rules}
 use Rattle.nulambiro.proofs.colors.nulambiro_same_picture.Goals as goal
 
 pub returns-then-same_picture : goal.returns-then-same_picture

@@ -1,5 +1,4 @@
 -- `answer_numbers` meets its contract, for each answer. Assumes nothing.
-use borrow.Author.Rules.{rules}
 use Rattle.nulambiro.specs.EncoderNumbers.{numbers_of}
 use Rattle.nulambiro.proofs.encoder.answer_numbers.Goals as goal
 

@@ -1,7 +1,6 @@
 -- `nulambiro_compress` meets its contract: the numbers of the answer that `compress` promises. Assumes nothing.
 use mathlib.Core.Path.{◌∙◌}
 use Rattle.nulambiro.specs.EncoderNumbers.{numbers_of}
-use borrow.Author.Rules.{rules}
 use Rattle.nulambiro.proofs.encoder.nulambiro_compress.Goals as goal
 
 pub returns : goal.returns

@@ -1,6 +1,5 @@
 -- `nulambiro_next_order` meets its contract: the numbers of the order that is found, or zeros. Assumes nothing.
 use mathlib.Core.Path.{refl}
-use borrow.Author.Rules.{rules}
 use Rattle.nulambiro.proofs.records.nulambiro_next_order.Goals as goal
 
 pub returns-in-Order : goal.returns-in-Order

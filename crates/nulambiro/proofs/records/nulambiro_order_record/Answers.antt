@@ -2,7 +2,6 @@
 use mathlib.Core.Path.{ap, sym, ◌∙◌}
 use Rattle.orders.specs.Promises.{recorded_in}
 use Rattle.nulambiro.specs.RecordNumbers.{answer_numbers}
-use borrow.Author.Rules.{rules}
 use Rattle.nulambiro.proofs.records.nulambiro_order_record.Goals as goal
 
 pub returns-in-Order : goal.returns-in-Order

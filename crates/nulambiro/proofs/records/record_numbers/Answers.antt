@@ -1,5 +1,4 @@
 -- `record_numbers` meets its contract: number by number. Assumes nothing.
-use borrow.Author.Rules.{rules}
 use Rattle.nulambiro.proofs.records.record_numbers.Goals as goal
 
 pub returns : goal.returns

@@ -1,5 +1,4 @@
 -- `walk_numbers` meets its contract: number by number. Assumes nothing.
-use borrow.Author.Rules.{rules}
 use Rattle.nulambiro.proofs.records.walk_numbers.Goals as goal
 
 pub returns : goal.returns

@@ -44,8 +44,8 @@ returns-in-Refused-e c =
     let l = c.loop-t in
     let at = rw c.in-Order.is at c.read_head-h.ensures in
     let d =
-        order_read c.args.f _ _ c.loop-t.t (row_stays c.args.f _ (λ e. omega (arith, c.loop-t.invariant.2 e))) at _ _
-        (rw c.moved-in-Order.ensures at c.order-r.ensures) in
+    order_read c.args.f _ _ c.loop-t.t (row_stays c.args.f _ (λ e. omega (arith, c.loop-t.invariant.2 e))) at _ _
+    (rw c.moved-in-Order.ensures at c.order-r.ensures) in
     record {
       grows = omega (arith, l.invariant.1, d.0.grows);
       decoded = between_refused _ _ _ _ _ l.invariant.0 d.2 _ _ d.0 _ _ c.in-Refused-e.is;
@@ -55,8 +55,8 @@ pub loop-t-smaller : goal.loop-t-smaller
 loop-t-smaller c =
     let at = rw c.in-Order.is at c.read_head-h.ensures in
     let d =
-        order_read c.args.f _ _ c.loop-t.t (row_stays c.args.f _ (λ e. omega (arith, c.loop-t.invariant.2 e))) at _ _
-        (rw c.moved-in-Order.ensures at c.order-r.ensures) in
+    order_read c.args.f _ _ c.loop-t.t (row_stays c.args.f _ (λ e. omega (arith, c.loop-t.invariant.2 e))) at _ _
+    (rw c.moved-in-Order.ensures at c.order-r.ensures) in
     omega (arith, d.1, d.2)
 
 pub loop-t-preserved : goal.loop-t-preserved
@@ -64,8 +64,8 @@ loop-t-preserved c =
     let i = c.loop-t.invariant in
     let at = rw c.in-Order.is at c.read_head-h.ensures in
     let d =
-        order_read c.args.f _ _ c.loop-t.t (row_stays c.args.f _ (λ e. omega (arith, c.loop-t.invariant.2 e))) at _ _
-        (rw c.moved-in-Order.ensures at c.order-r.ensures) in (
+    order_read c.args.f _ _ c.loop-t.t (row_stays c.args.f _ (λ e. omega (arith, c.loop-t.invariant.2 e))) at _ _
+    (rw c.moved-in-Order.ensures at c.order-r.ensures) in (
       between_on _ _ _ _ _ i.0 d.2 _ _ d.0 c.in_default.is d.1 c.order-r.auto.dst,
       omega (arith, i.1, d.0.grows),
       λ e. i.2 (sym d.0.mark ∙ e),

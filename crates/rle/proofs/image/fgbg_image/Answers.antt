@@ -16,8 +16,8 @@ overflow_add-s c =
 pub paint_masks-requires : goal.paint_masks-requires
 paint_masks-requires c =
     let p =
-        image_paintable c.args.f c.args.src.now c.args.dst.now c.args.s (eqb c.args.kind 6) c.image_foreground-t.ensures c.fg_ink.ensures c.bg_ink.ensures c.foreground_size.ensures
-        c.requires.ready c.plan_fgbg_image-p.result c.plan_fgbg_image-p.ensures in
+    image_paintable c.args.f c.args.src.now c.args.dst.now c.args.s (eqb c.args.kind 6) c.image_foreground-t.ensures c.fg_ink.ensures c.bg_ink.ensures c.foreground_size.ensures
+    c.requires.ready c.plan_fgbg_image-p.result c.plan_fgbg_image-p.ensures in
     record { paintable = p.0; n_bound = p.1 }
 
 pub finished-requires : goal.finished-requires

@@ -15,8 +15,8 @@ returns-then-rest-eq0 c =
     let e : c.args.n / 8 * 8 ≡ c.args.n = omega arith in
     painted_at e
     (elim c.if-m-gt0.branch [
-      then-m-gt0 w ↦ rw w.dst-is w.paint_whole_masks.ensures
-    | else-m-gt0 w ↦ (let none : c.args.n / 8 * 8 ≡ 0 = omega (arith, w.if-m-gt0.false) in rw w.dst-is (painted-zero none))
+      | then-m-gt0 w ↦ rw w.dst-is w.paint_whole_masks.ensures
+      | else-m-gt0 w ↦ (let none : c.args.n / 8 * 8 ≡ 0 = omega (arith, w.if-m-gt0.false) in rw w.dst-is (painted-zero none))
     ])
 
 pub overflow_add-k : goal.overflow_add-k
@@ -32,7 +32,7 @@ returns c =
     let e : c.args.n / 8 * 8 + c.args.n % 8 ≡ c.args.n = omega arith in
     painted_at e
     (painted_join _ _ _ (c.args.n / 8 * 8) (c.args.n % 8) _ _ _ _ (elim c.if-m-gt0.branch [
-      then-m-gt0 w ↦ rw w.dst-is w.paint_whole_masks.ensures
-    | else-m-gt0 w ↦ (let none : c.args.n / 8 * 8 ≡ 0 = omega (arith, w.if-m-gt0.false) in rw w.dst-is (painted-zero none))
+      | then-m-gt0 w ↦ rw w.dst-is w.paint_whole_masks.ensures
+      | else-m-gt0 w ↦ (let none : c.args.n / 8 * 8 ≡ 0 = omega (arith, w.if-m-gt0.false) in rw w.dst-is (painted-zero none))
     ])
     (painted_as (λ j b. image_later _ _ c.args.src.now c.args.from (c.args.n / 8) j) c.paint_mask_part.ensures))

@@ -43,8 +43,8 @@ returns-in-Refused-e c =
     let at = rw c.in-Order.is at c.read_head-h.ensures in
     let m = between_marked c.args.f _ _ _ l.s l.invariant (omega (arith, at.reads, at.place)) in
     let d =
-        order_read c.args.f _ _ (first_row_ended c.args.f l.s) (row_again c.args.f l.s) at _ _
-        (rw (c.insert_kept.ensures, c.still_first_row.ensures) at c.order-r.ensures) in
+    order_read c.args.f _ _ (first_row_ended c.args.f l.s) (row_again c.args.f l.s) at _ _
+    (rw (c.insert_kept.ensures, c.still_first_row.ensures) at c.order-r.ensures) in
     decodes_refused _ _ _ _ _ m d.2 _ _ d.0 _ c.in-Refused-e.is
 
 pub loop-e-smaller : goal.loop-e-smaller
@@ -53,8 +53,8 @@ loop-e-smaller c =
     let at = rw c.in-Order.is at c.read_head-h.ensures in
     let m = between_marked c.args.f _ _ _ l.s l.invariant (omega (arith, at.reads, at.place)) in
     let d =
-        order_read c.args.f _ _ (first_row_ended c.args.f l.s) (row_again c.args.f l.s) at _ _
-        (rw (c.insert_kept.ensures, c.still_first_row.ensures) at c.order-r.ensures) in
+    order_read c.args.f _ _ (first_row_ended c.args.f l.s) (row_again c.args.f l.s) at _ _
+    (rw (c.insert_kept.ensures, c.still_first_row.ensures) at c.order-r.ensures) in
     omega (arith, d.1, d.2)
 
 pub loop-e-preserved : goal.loop-e-preserved
@@ -63,6 +63,6 @@ loop-e-preserved c =
     let at = rw c.in-Order.is at c.read_head-h.ensures in
     let m = between_marked c.args.f _ _ _ l.s l.invariant (omega (arith, at.reads, at.place)) in
     let d =
-        order_read c.args.f _ _ (first_row_ended c.args.f l.s) (row_again c.args.f l.s) at _ _
-        (rw (c.insert_kept.ensures, c.still_first_row.ensures) at c.order-r.ensures) in
+    order_read c.args.f _ _ (first_row_ended c.args.f l.s) (row_again c.args.f l.s) at _ _
+    (rw (c.insert_kept.ensures, c.still_first_row.ensures) at c.order-r.ensures) in
     between_on _ _ _ _ _ m d.2 _ _ d.0 c.in_default.is d.1 c.order-r.auto.dst

@@ -25,12 +25,12 @@ overflow_add-t-in-Complete c =
 
 pub returns-in-Refused : goal.returns-in-Refused
 unfolding insert_after orders_after
-returns-in-Refused c = 
+returns-in-Refused c =
     executes_painted c.args.f c.args.src.now c.args.dst.now c.args.s c.args.kind c.order_foreground-fg.ensures c.requires.ready c.requires.pos_in_bounds.0
     c.plan_by_kind-p.result c.plan_by_kind-p.ensures (rw c.in-Refused.is) c.paint_order.ensures
 
 pub returns-in-Complete : goal.returns-in-Complete
 unfolding insert_after orders_after
-returns-in-Complete c = 
+returns-in-Complete c =
     executes_painted c.args.f c.args.src.now c.args.dst.now c.args.s c.args.kind c.order_foreground-fg.ensures c.requires.ready c.requires.pos_in_bounds.0
     c.plan_by_kind-p.result c.plan_by_kind-p.ensures (rw c.in-Complete.is) c.paint_order.ensures

@@ -44,10 +44,10 @@ loop-i-preserved c =
     let l = c.loop-i in
     let a = c.args in
     let one : PaintedOne a.d a.w (pick (eqb (l.m % 2) 1) (ink_of a.fg) (ink_of a.bg)) (a.k + l.i) l.dst c.if-m-eq1.dst =
-        elim c.if-m-eq1.branch [
-          then-m-eq1 w ↦ rw (w.dst-is, eq-eqb _ _ w.if-m-eq1.true) w.paint_pixel.ensures
-        | else-m-eq1 w ↦ rw (w.dst-is, ne_eqb _ _ w.if-m-eq1.false) w.paint_pixel-else-m-eq1.ensures
-        ] in (
+    elim c.if-m-eq1.branch [
+      | then-m-eq1 w ↦ rw (w.dst-is, eq-eqb _ _ w.if-m-eq1.true) w.paint_pixel.ensures
+      | else-m-eq1 w ↦ rw (w.dst-is, ne_eqb _ _ w.if-m-eq1.false) w.paint_pixel-else-m-eq1.ensures
+    ] in (
       omega arith,
       c.if-m-eq1.auto.dst ∙ l.invariant.1,
       half a.mask l.m l.i l.invariant.2,
