@@ -7,9 +7,11 @@
 #![tactic(auto)]
 
 ghost use Rattle.std.specs.Prelude.{◌<◌, ◌≤◌, length};
+ghost use Rattle.std.specs.Io.{ReadsAtMost};
 
 use base::widen;
-use libc::STDOUT_FILENO;
+use std::fs::File;
+use std::io::{self, Read};
 
 #[derive(Clone, Copy)]
 struct Picture {
@@ -186,20 +188,30 @@ fn replay(records: &[u8], target: &mut [u8]) -> Tally
     tally
 }
 
-fn main() {
-    let path = b"answers";
-    let fd = os::open_read(path);
-    if fd < 0 {
-        os::fail(path);
-        return;
+// Reads until `buf` is full or the input ends, and gives how many bytes it put at the start of `buf`.
+fn read_full(input: &mut impl Read, buf: &mut [u8]) -> io::Result<usize>
+    ensures { ReadsAtMost result buf.new }
+{
+    let mut done = 0;
+    while done < buf.len() {
+        let n = input.read(&mut buf[done..])?;
+        if n == 0 {
+            break;
+        }
+        done += n;
     }
+    Ok(done)
+}
+
+fn main(rt: HostRuntime) -> io::Result<()> {
+    let path = "answers";
+    let mut file = match File::open(&rt, path) {
+        Ok(file) => file,
+        Err(error) => return eprintln!(rt; "{path}: {error}"),
+    };
     let mut data = [0u8; 262144];
-    let n = io::read_full(fd, &mut data);
-    libc::close(fd);
+    let n = read_full(&mut file, &mut data)?;
     let mut target = [0u8; 65536];
     let tally = replay(&data[..n], &mut target);
-    io::print_decimal(STDOUT_FILENO, tally.streams as u64);
-    io::write_all(STDOUT_FILENO, b" streams, ");
-    io::print_decimal(STDOUT_FILENO, tally.differ as u64);
-    io::write_all(STDOUT_FILENO, b" differ\n");
+    println!(rt; "{} streams, {} differ", tally.streams, tally.differ)
 }

@@ -1,0 +1,9 @@
+-- The invariant: the bytes that were read lie within `buf`, whose length stays.
+use Rattle.std.proofs.Common.{length, ◌-◌, ◌≤◌, ◌≡◌}
+use Rattle.replay.proofs.read_full.Given as goal
+
+abbrev pub invariant-loop-done : goal.invariant-loop-done
+invariant-loop-done g l = record { within : l.done ≤ length l.buf; same_length : length l.buf ≡ length l.initial.buf }
+
+abbrev pub decreases-loop-done : goal.decreases-loop-done
+decreases-loop-done g l = length l.initial.buf - l.done
