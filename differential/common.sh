@@ -35,7 +35,7 @@ require_command() {
 require_library() {
   local crate
   for crate in "$@"; do
-    [ -f "$library/lib$crate.a" ] || fail "$library/lib$crate.a is missing: run 'rt staticlib $crate'"
+    [ -f "$library/lib$crate.a" ] || fail "$library/lib$crate.a is missing: run 'tools/build $crate'"
   done
 }
 

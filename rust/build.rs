@@ -1,5 +1,5 @@
 //! Links libnulambiro.a from the folder NULAMBIRO_LIB_DIR, or from where
-//! `rt staticlib nulambiro` writes it in this repository.
+//! `tools/build nulambiro` writes it in this repository.
 
 use std::env;
 use std::path::PathBuf;
@@ -21,7 +21,7 @@ fn main() {
     // rustc may run in another folder than this script: the path has to be absolute.
     let Ok(archive) = folder.join(ARCHIVE).canonicalize() else {
         eprintln!(
-            "{} is missing: run `rt staticlib nulambiro` in the repository's root, \
+            "{} is missing: run `tools/build nulambiro` in the repository's root, \
              or set NULAMBIRO_LIB_DIR to the folder that has {ARCHIVE}",
             folder.join(ARCHIVE).display()
         );

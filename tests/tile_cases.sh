@@ -10,7 +10,7 @@ set -euo pipefail
 cd "$(dirname "${BASH_SOURCE[0]}")/.."
 tile=${1:-target/bin/tile}
 if [ ! -x "$tile" ]; then
-  echo "tile_cases: there is no program $tile (rt check tile makes it)" >&2
+  echo "tile_cases: there is no program $tile (tools/build tile makes it)" >&2
   exit 1
 fi
 room=$(mktemp -d)

@@ -62,7 +62,7 @@
 //! # Linking
 //!
 //! The build script takes `libnulambiro.a` from the folder that `NULAMBIRO_LIB_DIR` names, or from
-//! where `rt staticlib nulambiro` writes it in the repository of this package.
+//! where `tools/build nulambiro` writes it in the repository of this package.
 #![deny(missing_docs)]
 #![deny(unsafe_code)]
 
