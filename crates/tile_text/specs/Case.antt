@@ -3,7 +3,8 @@
 use Rattle.std.specs.Prelude.{◌≡◌, refl, [], ◌∷◌, map}
 use Rattle.std.proofs.Common.{ap}
 use Rattle.picture.specs.Sizes as Sizes
-use Rattle.definition.specs.Tiles.{Tile, painting, decoded, two_runs_decoded}
+use Rattle.definition.specs.Tiles.{Tile, painting, decoded}
+use Rattle.definition.proofs.Tiles.{two_runs_decoded}
 use Rattle.print.specs.Text.{ascii, line}
 use Rattle.print.specs.Digits as Digits
 use Rattle.tile_text.specs.Answer as Answer
