@@ -1,0 +1,9 @@
+-- `reply_to` meets its contract: the parser undoes the text, and the array starts with 8,192 bytes. Assumes nothing.
+use Prim.Native.Nat.{ℕ}
+use lib.ListN.{length-replicate}
+use Rattle.tile_text.proofs.Inverse.{replied_to}
+use borrow.Author.Rules.{rules}
+use Rattle.tile_text.proofs.answer.reply_to.Goals as goal
+
+pub returns : goal.returns
+returns c = replied_to _ _ _ _ _ c.start.ensures c.feed-p.ensures.state c.feed-p.ensures.stream (length-replicate {A = ℕ} 8192 0) c.reply.ensures
