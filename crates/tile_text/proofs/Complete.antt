@@ -100,7 +100,7 @@ module _ (w h b : ℕ) where
       let high : x / 16 < 16 = omega (arith, g.0) in
       ap (λ (p : Parser). fed (step p (hex_digit (x % 16))) (hex_pairs xs)) (stream_digit (at_place 3 7 w h b n) (x / 16) stream_key_over refl high)
       ∙ ap (λ (p : Parser). fed p (hex_pairs xs)) (stream_digit (with_value (x / 16) (at_place 3 7 w h b n)) (x % 16) stream_key_over refl (omega arith))
-      ∙ pairs_read _ xs g.1
+      ∙ pairs_read (count_more n) xs g.1
 
   stream-read : (s : List ℕ) → Bytes s → fed (at_place 3 0 w h b 0) (line (ascii "stream=") (hex_pairs s)) ≡ at_place 4 7 w h b (count_all 0 s)
   unfolding line fed step stream_step key_step key_byte keys ascii

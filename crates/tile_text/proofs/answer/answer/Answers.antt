@@ -1,9 +1,6 @@
 -- `answer` meets its contract: its tests are the definition's, in the definition's order; within the limits there is no refusal 4, and
 -- the painted bytes fit. Assumes nothing.
-use mathlib.Core.Path.{sym}
-use lib.Seq.{length-take-le}
 use Rattle.tile_text.proofs.Replying.{answered_bad, answered_refused, answered_large, answered_decoded, painted_fit, decode_answered}
-use borrow.Author.Rules.{rules}
 use native.Mathlib.Omega.{arith}
 use Rattle.tile_text.proofs.answer.answer.Goals as goal
 
@@ -20,16 +17,12 @@ returns-then-p-gt-STREAM_LIMIT c =
     let size = rw c.in-Bytes.is at c.picture_size-size.ensures in
     answered_large _ _ _ _ c.if-p-ne-WHOLE.false _ size (λ _. c.if-p-gt-STREAM_LIMIT.true) c.refusal_fields-then-p-gt-STREAM_LIMIT.ensures
 
-pub slice_bounds-decompress-end : goal.slice_bounds-decompress-end
-slice_bounds-decompress-end c = sym (length-take-le _ _ (omega (arith, c.read-1.given.0)))
-
 pub overflow_mul-painted : goal.overflow_mul-painted
 overflow_mul-painted c =
     let size = rw c.in-Bytes.is at c.picture_size-size.ensures in
-    let space = call.before.decompress-arg2.given.0.1 in
     let a = c.args in
     let d = c.decompress-report in
-    omega (arith, painted_fit a.p a.stream.now _ _ _ _ size c.if-n-gt-PICTURE_LIMIT.false space d.auto.dst _ c.bytes_per_pixel.ensures d.ensures)
+    omega (arith, painted_fit a.p a.stream.now _ _ _ _ size c.if-n-gt-PICTURE_LIMIT.false c.told-target d.auto.dst _ c.bytes_per_pixel.ensures d.ensures)
 
 pub returns-in-Refused : goal.returns-in-Refused
 returns-in-Refused c =
@@ -39,8 +32,7 @@ returns-in-Refused c =
 pub returns-else-p-gt-STREAM_LIMIT : goal.returns-else-p-gt-STREAM_LIMIT
 returns-else-p-gt-STREAM_LIMIT c =
     let size = rw c.in-Bytes.is at c.picture_size-size.ensures in
-    let space = call.before.decompress-arg2.given.0.1 in
     let d = c.decompress-report in
     answered_decoded _ _ _ _ c.if-p-ne-WHOLE.false _ size c.if-n-gt-PICTURE_LIMIT.false c.if-p-gt-STREAM_LIMIT.false
-    (decode_answered _ _ _ _ _ _ size c.if-n-gt-PICTURE_LIMIT.false space d.auto.dst _ c.bytes_per_pixel.ensures d.ensures
+    (decode_answered _ _ _ _ _ _ size c.if-n-gt-PICTURE_LIMIT.false c.told-target d.auto.dst _ c.bytes_per_pixel.ensures d.ensures
     _ c.report_fields-in-Bytes.ensures)

@@ -1,6 +1,5 @@
 -- `reply` meets its contract: the answer's values, and then their lines. Assumes nothing.
 use Rattle.tile_text.proofs.Replying.{replied}
-use borrow.Author.Rules.{rules}
 use Rattle.tile_text.proofs.answer.reply.Goals as goal
 
 pub put_lines-requires : goal.put_lines-requires

@@ -2,7 +2,6 @@
 use Prim.Native.Nat.{ℕ}
 use lib.ListN.{length-replicate}
 use Rattle.tile_text.proofs.Inverse.{replied_to}
-use borrow.Author.Rules.{rules}
 use Rattle.tile_text.proofs.answer.reply_to.Goals as goal
 
 pub returns : goal.returns

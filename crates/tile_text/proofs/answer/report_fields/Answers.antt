@@ -1,5 +1,4 @@
 -- `report_fields` meets its contract: the outcome's numbers, one by one. Assumes nothing.
-use borrow.Author.Rules.{rules}
 use Rattle.tile_text.proofs.answer.report_fields.Goals as goal
 
 pub returns : goal.returns

@@ -2,7 +2,6 @@
 use borrow.Author.Tests.{eq-eqb, ne_eqb}
 use Rattle.print.specs.Text.{line}
 use Rattle.tile_text.specs.Answer.{format_name, format_line}
-use borrow.Author.Rules.{rules}
 use Rattle.tile_text.proofs.lines.put_format.Goals as goal
 
 pub returns-then-format-eq0 : goal.returns-then-format-eq0

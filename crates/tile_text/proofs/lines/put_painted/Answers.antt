@@ -2,7 +2,6 @@
 use Rattle.print.proofs.Writing.{line-written}
 use Rattle.print.specs.Text.{ascii}
 use Rattle.tile_text.specs.Answer.{painted_line}
-use borrow.Author.Rules.{rules}
 use Rattle.tile_text.proofs.lines.put_painted.Goals as goal
 
 pub returns : goal.returns

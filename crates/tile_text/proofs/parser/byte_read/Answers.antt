@@ -1,7 +1,6 @@
 -- `byte_read` meets its contract: the count's test is the definition's. Assumes nothing.
 use borrow.Author.Tests.{lt-ltb, le-ltb}
 use Rattle.tile_text.specs.Parse.{byte_read, count_more}
-use borrow.Author.Rules.{rules}
 use Rattle.tile_text.proofs.parser.byte_read.Goals as goal
 
 pub returns-then-p-lt8193 : goal.returns-then-p-lt8193

@@ -1,7 +1,6 @@
 -- `digit_among` meets its contract: its tests are the definition's. Assumes nothing.
 use mathlib.Core.Path.{sym}
 use Rattle.tile_text.proofs.Digits.{under, over, among}
-use borrow.Author.Rules.{rules}
 use Rattle.tile_text.proofs.parser.digit_among.Goals as goal
 
 pub returns-then-b-first : goal.returns-then-b-first

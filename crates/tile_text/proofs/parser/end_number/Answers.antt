@@ -1,7 +1,6 @@
 -- `end_number` meets its contract: its tests are the definition's. Assumes nothing.
 use borrow.Author.Tests.{eq-eqb, ne_eqb}
 use Rattle.tile_text.specs.Parse.{end_number}
-use borrow.Author.Rules.{rules}
 use Rattle.tile_text.proofs.parser.end_number.Goals as goal
 
 pub returns-then-p-eq0 : goal.returns-then-p-eq0

@@ -1,7 +1,6 @@
 -- `ends_byte` meets its contract: its tests are the definition's. Assumes nothing.
 use borrow.Author.Tests.{eq-eqb, ne_eqb}
 use Rattle.tile_text.specs.Parse.{ends_byte}
-use borrow.Author.Rules.{rules}
 use Rattle.tile_text.proofs.parser.ends_byte.Goals as goal
 
 pub returns-then-p : goal.returns-then-p

@@ -1,7 +1,6 @@
 -- `feed` meets its contract. The invariant: the state and the array are those after the bytes passed. Assumes nothing.
 use mathlib.Core.Path.{◌≡◌, refl}
-use Prim.Native.Nat.{◌≤◌, ◌-◌}
-use lib.ListN.{length, take}
+use lib.ListN.{take}
 use lib.Seq.{take_all}
 use Rattle.tile_text.specs.Parse.{fed, fed_into}
 use Rattle.tile_text.proofs.Chunks.{fed_more, into_more}

@@ -1,12 +1,8 @@
 -- `feed` meets its contract. The invariant: the state and the array are those after the bytes passed. Assumes nothing.
-use mathlib.Core.Path.{◌≡◌, refl}
+use mathlib.Core.Path.{◌≡◌}
 use Prim.Native.Nat.{◌≤◌, ◌-◌}
 use lib.ListN.{length, take}
-use lib.Seq.{take_all}
 use Rattle.tile_text.specs.Parse.{fed, fed_into}
-use Rattle.tile_text.proofs.Chunks.{fed_more, into_more}
-use borrow.Author.Rules.{rules}
-use native.Mathlib.Omega.{arith}
 use Rattle.tile_text.proofs.parser.feed.Given as goal
 
 abbrev pub invariant-loop-i : goal.invariant-loop-i

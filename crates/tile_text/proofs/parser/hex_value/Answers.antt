@@ -1,7 +1,6 @@
 -- `hex_value` meets its contract: its test is the definition's. Assumes nothing.
 use mathlib.Core.Path.{sym, ◌∙◌}
 use Rattle.tile_text.proofs.Digits.{hex_decimal, hex_letter}
-use borrow.Author.Rules.{rules}
 use Rattle.tile_text.proofs.parser.hex_value.Goals as goal
 
 pub returns-then-b-le57 : goal.returns-then-b-le57

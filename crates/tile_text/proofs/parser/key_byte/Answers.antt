@@ -2,7 +2,6 @@
 use mathlib.Core.Path.{sym, ◌∙◌}
 use Rattle.print.specs.Text.{ascii}
 use Rattle.tile_text.proofs.Keys.{past_lines, past_seven, key_in_table}
-use borrow.Author.Rules.{rules}
 use Rattle.tile_text.proofs.parser.key_byte.Goals as goal
 
 pub returns-then-line-ge4 : goal.returns-then-line-ge4

@@ -2,7 +2,6 @@
 use mathlib.Core.Path.{sym, ◌∙◌}
 use Rattle.tile_text.specs.Parse.{number_step}
 use Rattle.tile_text.proofs.Steps.{value_ended, value_none, value_read}
-use borrow.Author.Rules.{rules}
 use Rattle.tile_text.proofs.parser.number_step.Goals as goal
 
 pub returns-then-p : goal.returns-then-p

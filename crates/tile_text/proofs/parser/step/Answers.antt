@@ -2,7 +2,6 @@
 use borrow.Author.Tests.{eq-eqb, ne_eqb, lt-ltb, le-ltb}
 use Rattle.tile_text.specs.Parse.{step, key_step}
 use Rattle.tile_text.proofs.Keys.{in_seven}
-use borrow.Author.Rules.{rules}
 use native.Mathlib.Omega.{arith}
 use Rattle.tile_text.proofs.parser.step.Goals as goal
 

@@ -1,7 +1,6 @@
 -- `store` meets its contract: its tests are the definition's, and a digit is below 16. Assumes nothing.
 use mathlib.Core.Path.{sym, ◌∙◌}
 use Rattle.tile_text.proofs.Steps.{ending_digit, stored_in, stored_past, stored_not}
-use borrow.Author.Rules.{rules}
 use native.Mathlib.Omega.{arith}
 use Rattle.tile_text.proofs.parser.store.Goals as goal
 
