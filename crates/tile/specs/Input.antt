@@ -1,4 +1,4 @@
--- What reading promises. Nothing says which bytes C's `read` gives, so it is some text.
+-- What reading promises. Nothing says which bytes a read gives, so it is some text.
 use Rattle.std.specs.Prelude.{◌≡◌, List, ℕ}
 use Rattle.tile_text.specs.Parse.{fed, fed_into}
 use Rattle.tile_text.specs.declared.parser.Parser.{Parser}

@@ -6,7 +6,7 @@ ghost use Rattle.std.specs.Prelude.{◌≤◌};
 ghost use Rattle.tile_text.specs.Parse.{start};
 ghost use Rattle.tile.specs.Input.{ReadFrom};
 
-use libc::{STDERR_FILENO, STDIN_FILENO, STDOUT_FILENO};
+use std::io::{Read, Write};
 use tile_text::Parser;
 
 // `more`: bytes came; where none came, `failed`: the input could not be read, and else it is at its end.
@@ -25,29 +25,34 @@ struct Input {
 }
 
 // Reads once and feeds what came.
-fn read_chunk(p: Parser, stream: &mut [u8; 8192]) -> Chunk
+fn read_chunk<R: Read>(input: &mut R, p: Parser, stream: &mut [u8; 8192]) -> Chunk
     ensures { ReadFrom p stream.old result.parser stream.new }
 {
-    let mut bytes = io::buffer();
-    let got = libc::read(STDIN_FILENO, &mut bytes);
-    let n = io::count(got, &bytes);
-    let parser = tile_text::feed(p, &bytes[..n], stream);
-    Chunk {
-        parser,
-        more: 0 < n,
-        failed: got < 0,
+    let mut bytes = [0u8; 4096];
+    match input.read(&mut bytes) {
+        Ok(n) => {
+            let parser = tile_text::feed(p, &bytes[..n], stream);
+            Chunk {
+                parser,
+                more: 0 < n,
+                failed: false,
+            }
+        }
+        Err(_) => Chunk {
+            parser: p,
+            more: false,
+            failed: true,
+        },
     }
 }
 
-// A proved loop has to end, and nothing says that the input does. So the loop counts its turns down, from a number that no run
-// uses up.
-fn read_all(stream: &mut [u8; 8192]) -> Input
+// A proved loop has to end, and nothing says that the input does. So the loop has a number of turns that no run uses up.
+fn read_all<R: Read>(input: &mut R, stream: &mut [u8; 8192]) -> Input
     ensures { ReadFrom start stream.old result.parser stream.new }
 {
     let mut p = tile_text::start();
-    let mut turns = u64::MAX;
-    while turns > 0 {
-        let c = read_chunk(p, stream);
+    for _ in 0..u64::MAX {
+        let c = read_chunk(input, p, stream);
         p = c.parser;
         if !c.more {
             return Input {
@@ -55,7 +60,6 @@ fn read_all(stream: &mut [u8; 8192]) -> Input
                 whole: !c.failed,
             };
         }
-        turns -= 1;
     }
     Input {
         parser: p,
@@ -64,24 +68,26 @@ fn read_all(stream: &mut [u8; 8192]) -> Input
 }
 
 // Whether all of the first n bytes were written.
-fn write_answer(out: &[u8; 131328], n: usize) -> bool
+fn write_answer<W: Write>(output: &mut W, out: &[u8; 131328], n: usize) -> bool
     requires { n ≤ 131328 }
 {
     let bytes: &[u8] = out;
-    io::write_all(STDOUT_FILENO, &bytes[..n])
+    output.write_all(&bytes[..n]).is_ok()
 }
 
-fn main() {
+fn main(rt: HostRuntime) {
     let mut stream = [0u8; 8192];
     let mut target = [0u8; 65536];
     let mut out = [0u8; 131328];
-    let input = read_all(&mut stream);
+    let mut stdin = rt.stdin();
+    let mut stdout = rt.stdout();
+    let input = read_all(&mut stdin, &mut stream);
     if !input.whole {
-        io::write_all(STDERR_FILENO, b"tile: cannot read standard input\n");
+        let _ = eprintln!(rt; "tile: cannot read standard input");
         return;
     }
     let n = tile_text::reply(input.parser, &stream, &mut target, &mut out);
-    if !write_answer(&out, n) {
-        io::write_all(STDERR_FILENO, b"tile: cannot write standard output\n");
+    if !write_answer(&mut stdout, &out, n) {
+        let _ = eprintln!(rt; "tile: cannot write standard output");
     }
 }
