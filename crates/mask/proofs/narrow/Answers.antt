@@ -1,5 +1,4 @@
 -- `narrow` meets its contract: i masks are written. Assumes nothing.
--- mask i of m has its place
 use mathlib.Core.Path.{◌≡◌}
 use mathlib.Core.List.{[], ◌∷◌}
 use Prim.Native.Nat.{ℕ, ◌+◌, ◌*◌, ◌≤◌, ◌<◌}
@@ -12,8 +11,9 @@ use Rattle.byte_runs.proofs.Masks.{masks-from}
 use Rattle.byte_runs.proofs.Pixels.{xored_then}
 use Rattle.mask.proofs.narrow.Goals as goal
 
-one-fits : (i m d : ℕ) → i < m → i * 8 * d + 8 * d ≤ m * 8 * d
-one-fits i m d h = omega (arith, mul-le-mul_right {m = (i + 1) * 8} {n = m * 8} d (omega arith))
+-- mask i of m has its place
+one_fits : (i m d : ℕ) → i < m → i * 8 * d + 8 * d ≤ m * 8 * d
+one_fits i m d h = omega (arith, mul-le-mul_right {m = (i + 1) * 8} {n = m * 8} d (omega arith))
 
 pub loop-i-init : goal.loop-i-init
 loop-i-init c = (search rules, search rules, run_none _ _ _ _ (omega arith))
@@ -28,19 +28,19 @@ pub overflow_mul-i-in-loop-i : goal.overflow_mul-i-in-loop-i
 overflow_mul-i-in-loop-i c =
     let a = c.args in
     let l = c.loop-i in
-    omega (arith, one-fits l.i a.m a.d (omega arith))
+    omega (arith, one_fits l.i a.m a.d (omega arith))
 
 pub overflow_add-at : goal.overflow_add-at
 overflow_add-at c =
     let a = c.args in
     let l = c.loop-i in
-    omega (arith, one-fits l.i a.m a.d (omega arith))
+    omega (arith, one_fits l.i a.m a.d (omega arith))
 
 pub xor_part-requires : goal.xor_part-requires
 xor_part-requires c =
     let a = c.args in
     let l = c.loop-i in
-    (omega arith, (omega arith, (omega (arith, one-fits l.i a.m a.d (omega arith)), (omega arith, (omega arith, omega arith)))))
+    (omega arith, (omega arith, (omega (arith, one_fits l.i a.m a.d (omega arith)), (omega arith, (omega arith, omega arith)))))
 
 pub loop-i-preserved : goal.loop-i-preserved
 loop-i-preserved c =

@@ -1,5 +1,4 @@
 -- `narrow` meets its contract: i masks are written. Assumes nothing.
--- mask i of m has its place
 use mathlib.Core.Path.{◌≡◌}
 use mathlib.Core.List.{[], ◌∷◌}
 use Prim.Native.Nat.{◌*◌, ◌-◌, ◌≤◌}

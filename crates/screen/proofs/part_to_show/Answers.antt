@@ -1,6 +1,5 @@
 -- `part_to_show` meets its contract: each test is one of the definition's. The sides are at most 8,192, so no product overflows.
 -- Assumes nothing.
--- what the size says where the row is computed
 use borrow.Author.Tests.{le-leb, lt-leb, lt-ltb, le-ltb}
 use native.Mathlib.Omega.{arith}
 use Rattle.picture.specs.Sizes.{has_space}

@@ -5,8 +5,8 @@ use mathlib.Core.Bool.{Bool, true}
 use Rattle.color.specs.Colors.{both, same_triple}
 use Rattle.color.proofs.palette.same_triple.Goals as goal
 
-last-decides : (x y b : Bool) → x ≡ true → y ≡ true → b ≡ both x (both y b)
-last-decides x y b p q = rw (p, q)
+last_decides : (x y b : Bool) → x ≡ true → y ≡ true → b ≡ both x (both y b)
+last_decides x y b p q = rw (p, q)
 
 pub returns-then-s-t : goal.returns-then-s-t
 unfolding same_triple
@@ -18,4 +18,4 @@ returns-then-s-t-2 c = simp (eq-eqb _ _ c.if-s-t.false, ne_eqb _ _ c.if-s-t-2.tr
 
 pub returns : goal.returns
 unfolding same_triple
-returns c = last-decides _ _ _ (eq-eqb _ _ c.if-s-t.false) (eq-eqb _ _ c.if-s-t-2.false)
+returns c = last_decides _ _ _ (eq-eqb _ _ c.if-s-t.false) (eq-eqb _ _ c.if-s-t-2.false)

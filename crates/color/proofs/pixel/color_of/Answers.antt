@@ -9,12 +9,12 @@ use lib.ListN.{length}
 use Rattle.color.specs.Colors.{color_of, palette_fits}
 use Rattle.color.proofs.pixel.color_of.Goals as goal
 
-palette-long : (palette : List ℕ) (bpp : ℕ) → bpp ≡ 8 → palette_fits bpp palette ≡ true → 768 ≤ length palette
+palette_long : (palette : List ℕ) (bpp : ℕ) → bpp ≡ 8 → palette_fits bpp palette ≡ true → 768 ≤ length palette
 unfolding palette_fits
-palette-long palette bpp e h = leb-true 768 (length palette) (rw e at h)
+palette_long palette bpp e h = leb-true 768 (length palette) (rw e at h)
 
 pub entry_at-requires : goal.entry_at-requires
-entry_at-requires c = (palette-long _ _ c.in-8.is c.requires, c.widen.ensures.1)
+entry_at-requires c = (palette_long _ _ c.in-8.is c.requires, c.widen.ensures.1)
 
 pub from_two_bytes-requires : goal.from_two_bytes-requires
 from_two_bytes-requires c = inl refl
