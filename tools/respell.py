@@ -108,6 +108,7 @@ def turn_file(path, text, names):
         code = re.search(r"(?m)^file: +src/", text)
         return turn(text, {a: b for a, b in names.items() if not code or re.search("[A-Z-]", a)})
     if kind == ".md":
+        names = {a: b for a, b in names.items() if re.search("[A-Z-]", a)}
         return re.sub(r"`[^`\n]*`", lambda m: turn(m[0], names), text)
     return text
 

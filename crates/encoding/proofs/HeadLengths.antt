@@ -61,9 +61,9 @@ pub data HeadOf (n : ℕ) : ℕ → Type 0 where
   two_bytes : 31 < n → n ≤ 287 → HeadOf n 2
   three_bytes : 287 < n → HeadOf n 3
 
-pub head_of : (n : ℕ) → HeadOf n (head_size n)
+pub head_of_lem : (n : ℕ) → HeadOf n (head_size n)
 unfolding head_size
-head_of n =
+head_of_lem n =
     elim (dec_le n 0) [
       | yes z ↦ rw (eq-eqb n 0 (omega arith)) (no_head (omega arith))
       | no z ↦ rw (ne_eqb n 0 (λ e. omega arith))
@@ -80,7 +80,7 @@ head_of n =
 -- what holds of each number of bytes, by the run lengths that have it
 pub by_head : (Q : ℕ → Type 0) (n : ℕ) → (n ≡ 0 → Q 0) → (1 ≤ n → n ≤ 31 → Q 1) → (31 < n → n ≤ 287 → Q 2) → (287 < n → Q 3)
     → Q (head_size n)
-by_head Q n none one two three = go (head_of n)
+by_head Q n none one two three = go (head_of_lem n)
   where
     go : {x : ℕ} → HeadOf n x → Q x
     go (no_head e) = none e

@@ -49,8 +49,8 @@ module _ (n : ℕ) (one : 1 ≤ n) (rest : List ℕ) where
     abbrev r : Row
     r = row k from size (written unit mega header)
 
-    own_at : (q : ℕ) → q < size → row_of (from + q) ≡ r
-    own_at = same_tables no_row (λ q. row_of (from + q)) (λ _. r) size own
+    own_at_lem : (q : ℕ) → q < size → row_of (from + q) ≡ r
+    own_at_lem = same_tables no_row (λ q. row_of (from + q)) (λ _. r) size own
 
     low_at : (q : ℕ) → q < size → (from + q) % size ≡ q
     low_at = same_tables 0 (λ q. (from + q) % size) (λ q. q) size low
@@ -66,7 +66,7 @@ module _ (n : ℕ) (one : 1 ≤ n) (rest : List ℕ) where
         let q = n / unit in
         let w = fits.whole e h in
         let l = low_at q w.1 in
-        reads (from + q) rest in_header (own_at q w.1)
+        reads (from + q) rest in_header (own_at_lem q w.1)
         (rw (ne_eqb (from + q) header (omega (arith, w.1)), l, ne_eqb q 0 (omega (arith, w.0)))) (rw (l, w.2))
 
     in_byte_lem : mega ≤ n → Reads r n in_byte rest (from ∷ (n - mega) ∷ rest)
@@ -74,7 +74,7 @@ module _ (n : ℕ) (one : 1 ≤ n) (rest : List ℕ) where
     in_byte_lem h =
         let e : n - mega + mega ≡ n = omega arith in
         let l : from % size ≡ 0 = rw add-zero at (low_at 0 some) in
-        reads from ((n - mega) ∷ rest) in_byte (rw add-zero at (own_at 0 some)) (rw (ne_eqb from header (omega arith), l))
+        reads from ((n - mega) ∷ rest) in_byte (rw add-zero at (own_at_lem 0 some)) (rw (ne_eqb from header (omega arith), l))
         (rw (le-leb 1 (suc (length rest)) (omega arith), e))
 
     in_two : Reads r n in_two_bytes rest (header ∷ (n % 256) ∷ (n / 256) ∷ rest)

@@ -21,8 +21,8 @@ module _ (w : ℕ → ℕ) (d at row n : ℕ) (first enough : Bool) (l : List �
   pub no_masks : enough ≡ false → Masked l
   no_masks e = none (first_fails enough (pixels_there d at n l) e)
 
-  pub no_row : first ≡ false → at < row → Masked l
-  no_row e h = rw (e, lt-leb row at h) refl
+  pub no_row_lem : first ≡ false → at < row → Masked l
+  no_row_lem e h = rw (e, lt-leb row at h) refl
 
   module _ (new : List ℕ) (masks : enough ≡ true) (fit : pixels_there d at n l ≡ true) where
     pub in_first : first ≡ true → new ≡ run (bytes w) at (n * d) l → Masked new

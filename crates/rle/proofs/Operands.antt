@@ -79,8 +79,8 @@ module _ (D c n a R : ℕ) (p : CodePlan) (plans : counts_in p ≡ counts_of D (
 -- ---- painting
 
 -- where an ink can be painted, there is a place
-pub place_of : {D w k n : ℕ} {xs : List ℕ} {ink : CodeInk} → Paintable D w k n xs ink → HasPlace D k n xs
-place_of p = record { low = p.low; high = p.high; fits = p.fits }
+pub place_of_lem : {D w k n : ℕ} {xs : List ℕ} {ink : CodeInk} → Paintable D w k n xs ink → HasPlace D k n xs
+place_of_lem p = record { low = p.low; high = p.high; fits = p.fits }
 
 -- painted by an arm that two kinds share
 module _ {D w k n : ℕ} {xs ys : List ℕ} (f : Frame) (c : ℕ) (i : Bool) (fg bg : Ink) where

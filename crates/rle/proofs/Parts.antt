@@ -29,8 +29,8 @@ use Rattle.rle.proofs.Writers.{fill_painted, back-painted, xor_painted, image-pa
 abbrev bytes_in : Pixel → List ℕ
 bytes_in p = get_or p 0 0 ∷ get_or p 1 0 ∷ get_or p 2 0 ∷ []
 
-bytes_of : (D : ℕ) (p : Pixel) → OfDepth D p → p ≡ bytes_in p
-bytes_of D p of = three p (length_of_depth D p of)
+bytes_of_lem : (D : ℕ) (p : Pixel) → OfDepth D p → p ≡ bytes_in p
+bytes_of_lem D p of = three p (length_of_depth D p of)
 
 -- the list with the part as it then is
 abbrev put_back : ℕ → ℕ → List ℕ → List ℕ → List ℕ
@@ -62,7 +62,7 @@ module _ (D w k n : ℕ) (xs part : List ℕ) (place : HasPlace D k n xs) where
   part_filled p of e =
       let holds : pixels_there D 0 n own ≡ true = pixels-there D 0 n own place.low place.high (omega (arith, all_own)) in
       subst (λ (ys : List ℕ). Painted D w (λ _. solid p) k n xs ys)
-      (ap (λ (q : Pixel). run (bytes (turn q D)) (k * D) (n * D) xs) (bytes_of D p of)
+      (ap (λ (q : Pixel). run (bytes (turn q D)) (k * D) (n * D) xs) (bytes_of_lem D p of)
       ∙ sym (own_run (turn (bytes_in p) D) (n * D) (pixels_there D 0 n own) refl holds e))
       (fill_painted D w k n xs place.low place.high place.fits p of)
 
@@ -93,7 +93,7 @@ module _ (D w k n : ℕ) (xs part : List ℕ) (place : HasPlace D k n xs) where
       let em : pairs * 2 * D ≡ n * D = ap (λ (m : ℕ). m * D) (sym en) in
       let holds : pixels_there D 0 (pairs * 2) own ≡ true = pixels-there D 0 (pairs * 2) own place.low place.high (omega (arith, all_own)) in
       subst (λ (ys : List ℕ). Painted D w (dither_ink p q) k n xs ys)
-      ((λ i. run (bytes (turn (pair_of D (bytes_of D p of i) (bytes_of D q of' i)) (2 * D))) (k * D) (n * D) xs)
+      ((λ i. run (bytes (turn (pair_of D (bytes_of_lem D p of i) (bytes_of_lem D q of' i)) (2 * D))) (k * D) (n * D) xs)
       ∙ sym (own_run (turn (pair_of D (bytes_in p) (bytes_in q)) (2 * D)) (pairs * 2 * D) (pixels_there D 0 (pairs * 2) own) em holds e))
       (dither_painted D w k n xs place.low place.high place.fits p q of of')
 
@@ -150,7 +150,7 @@ module _ (D w k n : ℕ) (xs part : List ℕ) (place : HasPlace D k n xs) (wide 
       let holds : both (leb (w * D) (w * D)) (pixels_there D (w * D) n both-rows) ≡ true =
       both_hold _ _ own_row (pixels-there D (w * D) n both-rows place.low place.high there_too) in
       subst (λ (ys : List ℕ). Painted D w (λ _. above_xor p) k n xs ys)
-      (ap (λ (q : Pixel). run (xored (k * D) (w * D) (turn q D)) (k * D) (n * D) xs) (bytes_of D p of)
+      (ap (λ (q : Pixel). run (xored (k * D) (w * D) (turn q D)) (k * D) (n * D) xs) (bytes_of_lem D p of)
       ∙ sym (rows_run (λ (b j : ℕ). bit_xor b (turn (bytes_in p) D j)) (both (leb (w * D) (w * D)) (pixels_there D (w * D) n both-rows)) holds e))
       (xor_painted D w k n xs place.low place.high place.fits wide row p of)
 
@@ -228,7 +228,7 @@ module _ (D w k m : ℕ) (xs part s : List ℕ) (from : ℕ) (first : Bool) (pla
       (both_hold _ _ (is-there 0 m source (omega (arith, length_part from (from + m - from) s (omega arith))))
       (pixels-there D far (m * 8) lent place.low place.high (omega (arith, far_back, length_part least extent_of xs in_list)))) in
       subst (λ (ys : List ℕ). Painted D w (image_ink (fg_ink first p) (bg_ink first (0 ∷ 0 ∷ 0 ∷ [])) (drop from s)) k (m * 8) xs ys)
-      (ap (λ (q : Pixel). run (row_bytes first (k * D) (w * D) (masked_by s from D q)) (k * D) (m * 8 * D) xs) (bytes_of D p of)
+      (ap (λ (q : Pixel). run (row_bytes first (k * D) (w * D) (masked_by s from D q)) (k * D) (m * 8 * D) xs) (bytes_of_lem D p of)
       ∙ sym
       (in_part (row_bytes first far far (masked_by source 0 D (bytes_in p))) (row_bytes first (k * D) far (masked_by s from D (bytes_in p))) least extent_of far (m * 8 * D) xs part
       holds in_list (omega (arith, far_back)) (same_bytes_lem (bytes_in p)) e
@@ -244,7 +244,7 @@ pub few_masked : (D w k n : ℕ) (xs ys s : List ℕ) (from : ℕ) (first : Bool
     → Painted D w (image_ink (fg_ink first p) (bg_ink first (0 ∷ 0 ∷ 0 ∷ [])) (drop from s)) k n xs ys
 few_masked D w k n xs ys s from first place wide row few inside p of e =
     subst (λ (zs : List ℕ). Painted D w (image_ink (fg_ink first p) (bg_ink first (0 ∷ 0 ∷ 0 ∷ [])) (drop from s)) k n xs zs)
-    (ap (λ (q : Pixel). run (row_bytes first (k * D) (w * D) (masked_by s from D q)) (k * D) (n * D) xs) (bytes_of D p of) ∙ sym (go first row e ∙ source_is first))
+    (ap (λ (q : Pixel). run (row_bytes first (k * D) (w * D) (masked_by s from D q)) (k * D) (n * D) xs) (bytes_of_lem D p of) ∙ sym (go first row e ∙ source_is first))
     (rows-painted D w k n xs place.low place.high place.fits first wide row s from p of)
   where
     one : List ℕ

@@ -7,7 +7,7 @@ use lib.Dec.{leb}
 use borrow.Author.Tests.{le-leb, lt-leb}
 use Rattle.byte_runs.specs.Runs.{both, there, masked_by}
 use Rattle.byte_runs.proofs.Fits.{both_hold, first_fails, second_fails, is-there, not_there, pixels-there, no_bytes, many_bytes, no_room_lem}
-use Rattle.mask.proofs.Places.{no_pixels, no_masks, no_row, in_first, in_later}
+use Rattle.mask.proofs.Places.{no_pixels, no_masks, no_row_lem, in_first, in_later}
 use Rattle.mask.proofs.mask_part.Goals as goal
 
 pub returns-then-n-gt8 : goal.returns-then-n-gt8
@@ -57,7 +57,7 @@ returns-then-first c =
 pub returns-then-at-row : goal.returns-then-at-row
 returns-then-at-row c =
     let a = c.args in
-    no_row _ a.d a.at a.row a.n a.first (both (leb a.n 8) (there a.pos 1 a.src.now)) a.dst.now c.if-first.false c.if-at-row.true
+    no_row_lem _ a.d a.at a.row a.n a.first (both (leb a.n 8) (there a.pos 1 a.src.now)) a.dst.now c.if-first.false c.if-at-row.true
 
 pub returns : goal.returns
 returns c =

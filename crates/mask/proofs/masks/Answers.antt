@@ -4,7 +4,7 @@ use Prim.Native.Nat.{◌*◌}
 use native.Mathlib.Omega.{arith}
 use Rattle.byte_runs.specs.Runs.{there, masked_by}
 use Rattle.byte_runs.proofs.Fits.{is-there, not_there, pixels_bounds, not_pixels, fit_parted}
-use Rattle.mask.proofs.Places.{no_pixels, no_masks, no_row, in_first, in_later}
+use Rattle.mask.proofs.Places.{no_pixels, no_masks, no_row_lem, in_first, in_later}
 use Rattle.mask.proofs.masks.Goals as goal
 
 pub returns-then-dst-at : goal.returns-then-dst-at
@@ -45,7 +45,7 @@ returns-then-first c =
 pub returns-then-at-row : goal.returns-then-at-row
 returns-then-at-row c =
     let a = c.args in
-    no_row _ a.d a.at a.row (a.m * 8) a.first (there a.pos a.m a.src.now) a.dst.now c.if-first.false c.if-at-row.true
+    no_row_lem _ a.d a.at a.row (a.m * 8) a.first (there a.pos a.m a.src.now) a.dst.now c.if-first.false c.if-at-row.true
 
 pub xor_masks-requires : goal.xor_masks-requires
 xor_masks-requires c =

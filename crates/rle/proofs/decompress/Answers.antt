@@ -36,4 +36,4 @@ pub returns-else-given-needed : goal.returns-else-given-needed
 returns-else-given-needed c =
     let a = c.args in
     reports_decoded a.bpp a.width a.height (matched c.in-Bytes.is c.picture_size-size.ensures) c.depth_of-depth.ensures a.dst.now c.if-given-needed.false
-    a.src.now _ _ c.decompress_impl-r.auto.dst (λ j. omega (arith, c.shared_slice_known-1.given j)) c.decompress_impl-r.ensures c.report_of.result c.report_of.ensures
+    a.src.now _ _ c.decompress_impl-r.auto.dst (λ j. omega (arith, c.type_inv.src j)) c.decompress_impl-r.ensures c.report_of.result c.report_of.ensures

@@ -15,7 +15,7 @@ pub returns-then-f-from : goal.returns-then-f-from
 returns-then-f-from c =
     let a = c.args in
     finds_past a.bpp a.width a.height (matched c.in-Bytes.is c.picture_size-size.ensures) c.depth_of-depth.ensures a.src.now a.from
-    a.n c.if-f-from.true (λ j. omega (arith, c.shared_slice_known-1.given j))
+    a.n c.if-f-from.true (λ j. omega (arith, c.type_inv.src j))
 
 pub walk_orders-r-requires : goal.walk_orders-r-requires
 walk_orders-r-requires c =

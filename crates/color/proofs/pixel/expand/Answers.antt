@@ -1,4 +1,5 @@
 -- `expand` meets its contract: in each arm the depth is known, and the definition computes to what the arm gives. Assumes nothing.
+use native.Mathlib.Omega.{arith}
 use borrow.Author.Tests.{ne_eqb}
 use mathlib.Core.Path.{refl, sym, ◌∙◌}
 use Rattle.picture.specs.Sizes.{depth_index}
@@ -54,5 +55,5 @@ returns-in-24 c = simp (c.done-in-24.ensures, c.color_of-in-24.ensures, c.in-24.
 pub returns-in_default : goal.returns-in_default
 unfolding expanded depth_index
 returns-in_default c =
-    let r = c.in_default.in_default-own.rest in
-    simp (c.refused-in_default.ensures, ne_eqb _ _ r.0.0.0.1, ne_eqb _ _ r.0.0.1, ne_eqb _ _ r.0.1, ne_eqb _ _ r.1)
+    let b = c.args.bpp in
+    simp (c.refused-in_default.ensures, ne_eqb b 8 (omega arith), ne_eqb b 15 (omega arith), ne_eqb b 16 (omega arith), ne_eqb b 24 (omega arith))

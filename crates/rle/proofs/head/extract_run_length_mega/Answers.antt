@@ -7,7 +7,7 @@ use Rattle.rle.proofs.head.extract_run_length_mega.Goals as goal
 pub overflow_add-result : goal.overflow_add-result
 overflow_add-result c =
     let is = u8_is c.args.src.now c.args.pos _ _ c.u8_from-read.ensures c.in-Value.is in
-    omega (arith, is.1, c.shared_slice_known-1.given c.args.pos)
+    omega (arith, is.1, c.type_inv.src c.args.pos)
 
 pub returns-in-NotEnoughBytes : goal.returns-in-NotEnoughBytes
 returns-in-NotEnoughBytes c =
@@ -18,4 +18,4 @@ pub returns-in-Value : goal.returns-in-Value
 returns-in-Value c =
     mega_read c.args.src.now c.args.pos c.requires.0 _ _
     (u8_is c.args.src.now c.args.pos _ _ c.u8_from-read.ensures c.in-Value.is)
-    (omega (arith, c.shared_slice_known-1.given c.args.pos)) c.requires.1 c.requires.2
+    (omega (arith, c.type_inv.src c.args.pos)) c.requires.1 c.requires.2

@@ -17,7 +17,7 @@ returns-in-NotEnoughBytes c =
 
 pub returns-else-n-eq0 : goal.returns-else-n-eq0
 returns-else-n-eq0 c =
-    let byte = c.shared_slice_known-1.given in
+    let byte = c.type_inv.src in
     long-is c.args.src.now c.args.pos c.requires _
     (u16_is c.args.src.now c.args.pos _ _ c.u16_from-read.ensures c.in-Value.is)
     (omega (arith, byte c.args.pos)) (omega (arith, byte (c.args.pos + 1))) c.if-n-eq0.false

@@ -12,7 +12,7 @@ returns-in_default c =
 pub kind-c-requires : goal.kind-c-requires
 kind-c-requires c =
     let is = u8_is _ _ _ _ c.u8_from.ensures c.in-Value.is in
-    record { table_value = c.requires.0; header_bound = omega (arith, is.1, c.shared_slice_known-1.given c.args.pos) }
+    record { table_value = c.requires.0; header_bound = omega (arith, is.1, c.type_inv.src c.args.pos) }
 
 pub overflow_add-pos : goal.overflow_add-pos
 overflow_add-pos c =
@@ -22,12 +22,12 @@ overflow_add-pos c =
 pub extract_run_length-l-requires : goal.extract_run_length-l-requires
 extract_run_length-l-requires c =
     let is = u8_is _ _ _ _ c.u8_from.ensures c.in-Value.is in
-    record { lengths_value = c.requires.1; pos_in_bounds = (omega arith, omega (arith, is.1, c.shared_slice_known-1.given c.args.pos), c.kind-c.ensures) }
+    record { lengths_value = c.requires.1; pos_in_bounds = (omega arith, omega (arith, is.1, c.type_inv.src c.args.pos), c.kind-c.ensures) }
 
 pub returns-in-Of : goal.returns-in-Of
 returns-in-Of c =
     let is = u8_is _ _ _ _ c.u8_from.ensures c.in-Value.is in
-    head_read c.args.src.now c.args.pos _ _ is.1 c.kind-c.ensures _ _ _ (omega (arith, is.1, c.shared_slice_known-1.given c.args.pos))
+    head_read c.args.src.now c.args.pos _ _ is.1 c.kind-c.ensures _ _ _ (omega (arith, is.1, c.type_inv.src c.args.pos))
     (rw c.in-Of.is at c.extract_run_length-l.ensures)
 
 pub returns-in-Refused : goal.returns-in-Refused

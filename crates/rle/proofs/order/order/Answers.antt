@@ -1,4 +1,5 @@
 -- `order` meets its contract: each arm is the order of its kind's number. Assumes nothing.
+use native.Mathlib.Omega.{arith}
 use mathlib.Core.Path.{ap, sym}
 use Prim.Native.Nat.{ℕ}
 use Rattle.definition.specs.Orders.{rows, row}
@@ -43,7 +44,6 @@ returns-in-7 c = executes_kind _ (ap (λ (k : ℕ). kind_of k) (sym c.in-7.is)) 
 
 pub returns-in_default : goal.returns-in_default
 returns-in_default c =
-    let r = c.in_default.in_default-own.rest in
     let few = c.if-kind-gt9.false in
-    let k = special_number c.args.kind few r.0.0.0.0.0.0.1 r.0.0.0.0.0.1 r.0.0.0.0.1 r.0.0.0.1 r.0.0.1 r.0.1 r.1 in
+    let k = special_number c.args.kind few (λ e. omega arith) (λ e. omega arith) (λ e. omega arith) (λ e. omega arith) (λ e. omega arith) (λ e. omega arith) (λ e. omega arith) in
     rw (c.requires.n_value.1 k.0 few) (executes_kind _ (sym k.1) (c.special_fgbg.ensures _ c.requires.pos_in_bounds))

@@ -1,4 +1,5 @@
 -- `plan_by_kind` meets its contract: each arm plans the kind of its number. Assumes nothing.
+use native.Mathlib.Omega.{arith}
 use mathlib.Core.Path.{◌∙◌}
 use Rattle.definition.specs.Orders.{rows, row}
 use Rattle.definition.specs.Codes.{kind_row, kind_of}
@@ -32,5 +33,4 @@ returns-in-7 c = c.plan_dithered_run.ensures ∙ at_number _ _ _ _ c.in-7.is
 
 pub returns-in_default : goal.returns-in_default
 returns-in_default c =
-    let r = c.in_default.in_default-own.rest in
-    c.plan_run.ensures ∙ run-counts _ _ _ _ _ c.if-kind-gt9.false r.0.0.0.0.1 r.0.0.0.1 r.0.0.1 r.0.1 r.1
+    c.plan_run.ensures ∙ run-counts _ _ _ _ _ c.if-kind-gt9.false (λ e. omega arith) (λ e. omega arith) (λ e. omega arith) (λ e. omega arith) (λ e. omega arith)

@@ -45,8 +45,7 @@ returns-in-2 c =
 
 pub returns-in_default : goal.returns-in_default
 returns-in_default c =
-    let r = c.in_default.in_default-own.rest in
     let o = c.requires.kind_bound in
-    let k = special_number c.args.kind o.0 r.0.0.1 (λ e. r.0.1 (inl e)) r.1 o.1 o.2 (λ e. r.0.1 (inr e)) o.3 in
+    let k = special_number c.args.kind o.0 (λ e. omega arith) (λ e. grind arith) (λ e. grind arith) o.1 o.2 (λ e. grind arith) o.3 in
     special_painted _ _ _ _ _ k.1 _
     (rw (c.row_ink-fg.ensures, c.row_ink-bg.ensures, c.special_mask.ensures) at c.paint_mask.ensures)

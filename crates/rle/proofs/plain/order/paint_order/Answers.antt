@@ -6,7 +6,7 @@ use Rattle.definition.specs.Orders.{rows, row}
 use Rattle.definition.specs.Codes.{kind_row, kind_of}
 use Rattle.definition.specs.Plan.{kind_ink}
 use Rattle.rle.proofs.Painting.{painted-zero, solid_paintable, read_of_depth, turn-pixel}
-use Rattle.rle.proofs.Operands.{place_of, pixel-painted}
+use Rattle.rle.proofs.Operands.{place_of_lem, pixel-painted}
 use Rattle.rle.proofs.plain.order.paint_order.Goals as goal
 
 pub returns-then-n-eq0 : goal.returns-then-n-eq0
@@ -15,7 +15,7 @@ returns-then-n-eq0 c = painted-zero c.if-n-eq0.true
 pub paint_run-requires : goal.paint_run-requires
 paint_run-requires c =
     let r = c.requires in
-    solid_paintable _ (place_of r.fg) r.fg.wide
+    solid_paintable _ (place_of_lem r.fg) r.fg.wide
     (rw c.white_or_black.ensures (turn-pixel _ _ _ (eqb c.args.kind 10) r.white r.bg.pixel)) c.solid.ensures
 
 pub returns-then-kind-gt9 : goal.returns-then-kind-gt9
@@ -31,12 +31,12 @@ read_pixel-requires c =
 pub paint_run-requires-in-3 : goal.paint_run-requires-in-3
 paint_run-requires-in-3 c =
     let r = c.requires in
-    solid_paintable _ (place_of r.fg) r.fg.wide (read_of_depth _ r.fg.low r.fg.high c.read_pixel.ensures) c.solid-in-3.ensures
+    solid_paintable _ (place_of_lem r.fg) r.fg.wide (read_of_depth _ r.fg.low r.fg.high c.read_pixel.ensures) c.solid-in-3.ensures
 
 pub paint_image-requires : goal.paint_image-requires
 paint_image-requires c =
     let r = c.requires in
-    record { has_place = place_of r.fg; d_in_bounds = omega (arith, r.place, r.operands.image c.in-4.is) }
+    record { has_place = place_of_lem r.fg; d_in_bounds = omega (arith, r.place, r.operands.image c.in-4.is) }
 
 pub read_pixel-a-requires : goal.read_pixel-a-requires
 read_pixel-a-requires c =
@@ -50,7 +50,7 @@ read_pixel-b-requires c =
 
 pub paint_dithered-requires : goal.paint_dithered-requires
 paint_dithered-requires c =
-    let r = c.requires in record { has_place = place_of r.fg; of_depth = (read_of_depth _ r.fg.low r.fg.high c.read_pixel-a.ensures, read_of_depth _ r.fg.low r.fg.high c.read_pixel-b.ensures) }
+    let r = c.requires in record { has_place = place_of_lem r.fg; of_depth = (read_of_depth _ r.fg.low r.fg.high c.read_pixel-a.ensures, read_of_depth _ r.fg.low r.fg.high c.read_pixel-b.ensures) }
 
 pub returns-in-3 : goal.returns-in-3
 unfolding kind_ink kind_of kind_row rows row
