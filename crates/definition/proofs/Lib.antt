@@ -6,4 +6,5 @@ pub mod Planned
 pub mod Bounds
 pub mod Runs
 pub mod Records
+pub mod Pauses
 pub mod Tiles

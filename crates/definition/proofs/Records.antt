@@ -130,7 +130,7 @@ unfolding then_run then_orders end_with orders_after
 done-orders f n s t complete go is = omega (arith, go t, is)
 done-orders f n s t (Ending.refused r) go is = is ∙ sym (add-zero s.orders)
 
-plan_orders : (f : Frame) (h : ℕ) (m : Progress) (x : Head) → (plan_from f h m x).after.orders ≡ orders_after (plan_from f h m x).ending m.orders
+pub plan_orders : (f : Frame) (h : ℕ) (m : Progress) (x : Head) → (plan_from f h m x).after.orders ≡ orders_after (plan_from f h m x).ending m.orders
 unfolding plan_from plan_by
 plan_orders f h m (head k n rest) = refl
 plan_orders f h m (Head.refused r rest) = refl

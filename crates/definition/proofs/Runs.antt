@@ -16,7 +16,7 @@ use Rattle.definition.proofs.Planned.{step_planned}
 
 -- ---- one order, and then the others
 
-run_end : (f : Frame) (n : ℕ) (s : State) → s.left ≡ [] → run f n s ≡ ended s
+pub run_end : (f : Frame) (n : ℕ) (s : State) → s.left ≡ [] → run f n s ≡ ended s
 unfolding run at_end
 run_end f zero s e = rw e
 run_end f (suc n) s e = rw e
@@ -115,6 +115,35 @@ run_add f (suc m) n s =
     ∙ ap (λ (g : State → Run). then_run g (step f s)) (λ i t. run_add f m n t i))
     ∙ ap (λ (k : ℕ). run f k s) (sym (suc-add m n))
 
+-- ---- what holds of runs
+
+at_end_by : (Q : Run → Type 0) (l : List ℕ) (a b : Run) → Q a → (0 < length l → Q b) → Q (at_end l a b)
+unfolding at_end
+at_end_by Q [] a b h go = h
+at_end_by Q (x ∷ xs) a b h go = go (omega arith)
+
+-- the state that the next order leaves
+abbrev pub following : Frame → State → State
+following f s = plan_state f s (plan_of f (progress_of s))
+
+-- what holds of each run of at most n orders from a state on: where it ends, pauses or is refused, and one order before where it holds
+module _ (f : Frame) (Q : ℕ → State → Run → Type 0) (ends : (n : ℕ) (s : State) → Q n s (ended s))
+    (pauses : (s : State) → 0 < length s.left → Q 0 s (paused s))
+    (refuses : (n : ℕ) (s : State) (r : Refusal) → 0 < length s.left → (plan_of f (progress_of s)).ending ≡ Ending.refused r → Q (suc n) s (refused r (following f s)))
+    (goes : (n : ℕ) (s : State) (x : Run) → 0 < length s.left → (plan_of f (progress_of s)).ending ≡ complete → Q n (following f s) x → Q (suc n) s x) where
+  then_by : (n : ℕ) (s : State) (e : Ending) → 0 < length s.left → (plan_of f (progress_of s)).ending ≡ e → Q n (following f s) (run f n (following f s))
+      → Q (suc n) s (then_run (run f n) (end_with e (following f s)))
+  unfolding then_run end_with
+  then_by n s complete more is h = goes n s _ more is h
+  then_by n s (Ending.refused r) more is h = refuses n s r more is
+
+  pub by_orders : (n : ℕ) (s : State) → Q n s (run f n s)
+  unfolding run plan_step
+  by_orders zero s = at_end_by (λ (x : Run). Q 0 s x) s.left _ _ (ends 0 s) (pauses s)
+  by_orders (suc n) s =
+      at_end_by (λ (x : Run). Q (suc n) s x) s.left _ _ (ends (suc n) s)
+      (λ more. rw step_planned (then_by n s _ more refl (by_orders n (following f s))))
+
 -- ---- a whole stream's run never pauses
 
 -- the bytes behind a run length are fewer than those from its header on
@@ -150,7 +179,7 @@ step_shortens f s more =
     let fewer : length (behind x) ≤ length l = length_shortens _ _ _ l in
     omega (arith, plan_shortens f h (past_first_row f (progress_of s)) (row_of h).kind x, fewer, length-drop 1 s.left)
 
-abbrev NotPaused : Run → Type 0
+abbrev pub NotPaused : Run → Type 0
 NotPaused (ended s) = Unit {0}
 NotPaused (paused s) = ⊥
 NotPaused (refused r s) = Unit {0}
@@ -165,7 +194,7 @@ unfolding then_run end_with
 then_not_paused go complete s h = h
 then_not_paused go (Ending.refused r) s h = tt
 
-run_not_paused : (f : Frame) (n : ℕ) (s : State) → length s.left ≤ n → NotPaused (run f n s)
+pub run_not_paused : (f : Frame) (n : ℕ) (s : State) → length s.left ≤ n → NotPaused (run f n s)
 unfolding run plan_step
 run_not_paused f zero s h = at_end_not_paused s.left s (paused s) (λ more. absurd (omega arith))
 run_not_paused f (suc n) s h =

@@ -5,4 +5,5 @@ pub mod Plan
 pub mod Codes
 pub mod Runs
 pub mod Tiles
+pub mod Pauses
 pub mod RecordExamples

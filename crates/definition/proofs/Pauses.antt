@@ -4,11 +4,11 @@
 use mathlib.Core.Path.{◌≡◌, refl, ap, sym, ◌∙◌, subst}
 use mathlib.Core.List.{List}
 use mathlib.Core.Bool.{Bool, true, false}
-use Prim.Native.Nat.{ℕ, zero, suc, ◌+◌, ◌-◌, ◌*◌, ◌≤◌, ◌<◌, zero-le}
+use Prim.Native.Nat.{ℕ, zero, suc, ◌+◌, ◌-◌, ◌*◌, ◌≤◌, zero-le}
 use native.Mathlib.Nat.{add-zero, zero-add}
 use native.Mathlib.Omega.{arith}
 use lib.Dec.{ltb}
-use borrow.Author.Tests.{le-ltb, lt-ltb, ltb-false}
+use borrow.Author.Tests.{le-ltb}
 use lib.ListN.{length, get_or, take}
 use lib.Seq.{take-append-le, take-length, take-take}
 use Rattle.base.specs.Picks.{pick}
@@ -18,12 +18,13 @@ use Rattle.picture.specs.Sizes.{Frame, depth_of}
 use Rattle.picture.proofs.Pixels.{pixels_cong}
 use Rattle.definition.specs.Orders.{head_of}
 use Rattle.definition.specs.Decode.{Ink, paint, State, done, step, Run, ended, paused, refused, run, start}
-use Rattle.definition.specs.Pauses.{Saved, start_at, restored, saved_of, unused_byte, bad_state}
+use Rattle.definition.specs.Pauses.{Saved, start_at, restored, unused_byte, bad_state}
 use Rattle.definition.specs.Plan.{Ending, complete, end_with, plan_step, plan_of, plan_state, progress_of, past_first_row, orders_after}
 use Rattle.definition.proofs.Painting.{length-paint}
-use Rattle.definition.proofs.Planned.{step_planned, plan_orders}
+use Rattle.definition.proofs.Planned.{step_planned}
+use Rattle.definition.proofs.Records.{plan_orders}
 use Rattle.definition.proofs.Bounds.{last}
-use Rattle.definition.proofs.Runs.{resumed, run_add, NotPaused, following, by-orders}
+use Rattle.definition.proofs.Runs.{resumed, run_add, NotPaused, following, by_orders}
 
 -- ---- how many orders a paused run has completed
 
@@ -48,7 +49,7 @@ PausedWith k (refused r s) = Unit {0}
 pub paused-orders : (f : Frame) (n : ℕ) (s t : State) → run f n s ≡ paused t → t.orders ≡ s.orders + n
 paused-orders f n s t e =
     subst (λ (x : Run). PausedWith (s.orders + n) x) e
-    (by-orders f (λ m u x. PausedWith (u.orders + m) x) (λ m u. tt) (λ u more. sym (add-zero u.orders)) (λ m u r more p. tt)
+    (by_orders f (λ m u x. PausedWith (u.orders + m) x) (λ m u. tt) (λ u more. sym (add-zero u.orders)) (λ m u r more p. tt)
     (λ m u x more p go. subst (λ (k : ℕ). PausedWith k x) (omega (arith, following_orders f u p)) go) n s)
 
 -- ---- a run that is not paused
@@ -83,7 +84,7 @@ following_keeps f s = (rw length-paint (omega arith), paint_keeps _ _ _ s.painte
 
 pub painted_stay : (f : Frame) (n : ℕ) (s : State) → take (length s.painted) (last (run f n s)).painted ≡ s.painted
 painted_stay f =
-    by-orders f (λ n s x. take (length s.painted) (last x).painted ≡ s.painted) (λ n s. take-length s.painted) (λ s more. take-length s.painted)
+    by_orders f (λ n s x. take (length s.painted) (last x).painted ≡ s.painted) (λ n s. take-length s.painted) (λ s more. take-length s.painted)
     (λ n s r more e. (following_keeps f s).1)
     (λ n s x more e go.
     let k = following_keeps f s in
