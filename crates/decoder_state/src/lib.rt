@@ -2,6 +2,7 @@
 //
 // What it stands for, and which states are refused, is defined in the crate `definition`, specs/Pauses.antt.
 #![tactic(auto)]
+
 ghost use mathlib.Core.Path.{◌≡◌};
 ghost use Rattle.definition.specs.Pauses.{start_at, unused_byte, bad_state};
 ghost use Rattle.decoder_state.specs.States.{saved_in};
@@ -10,7 +11,7 @@ use picture::depth_of;
 
 // The foreground, the place in the stream, whether an insert is pending, the pixels painted, the first-row mark, the orders completed. No
 // two fields of one byte stand side by side: the compiler would pack them into one register and take them apart at every order.
-#[derive(Drop)]
+#[derive(Clone, Copy)]
 pub struct State {
     pub foreground: [u8; 3],
     pub pos: usize,
