@@ -133,8 +133,8 @@ module _ (whole before : List ℕ) (fits : length whole ≤ length before) where
       ∙ length-append (take at whole) (drop at before)
       ∙ rw (length-take-le at whole b.within, length-drop) (omega (arith, b.within))
 
-  begun-room : (now bytes to-come : List ℕ) (at : ℕ) → Begun whole before now (bytes ++ to-come) at → at + length bytes ≤ length now
-  begun-room now bytes to-come at b =
+  begun_room : (now bytes to-come : List ℕ) (at : ℕ) → Begun whole before now (bytes ++ to-come) at → at + length bytes ≤ length now
+  begun_room now bytes to-come at b =
       omega (
         arith,
         begun_length now (bytes ++ to-come) at b,
@@ -163,7 +163,7 @@ module _ (s : List ℕ) (f : Layout) (k : ℕ) (after : Bool) (o : Order) (is : 
   begun_here = rw (next-rest f.width (pixels_in f s) k after o is (rw length-pixels_of inside) f.bytes) at begun
 
   pub order-room : at + length bytes ≤ length now
-  order-room = begun-room (stream_in f s) before fits now bytes later at begun_here
+  order-room = begun_room (stream_in f s) before fits now bytes later at begun_here
 
   pub order_begun : (then : List ℕ) (r : ℕ) → Writes bytes now then at r → Begun (stream_in f s) before then later r
   order_begun then r x = begun_more (stream_in f s) before fits now then bytes later at r begun_here x
