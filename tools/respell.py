@@ -3,10 +3,10 @@
 
 usage: tools/respell.py [--list]
 
-Words are joined by an underscore, as in bytes_of and step_planned. A dash stays between two names of functions, as in length-paint. A lemma that
-would get the name of a definition is called so with _lem behind it. What is declared below proofs/F for a function F keeps its name, and so does
-every name of src/. A file specs/Contracts.antt becomes specs/Promises.antt, since Rattle makes a module of the former name. --list prints the names
-and changes nothing; a second run changes nothing.
+Words are joined by an underscore, as in bytes_of and step_planned. A dash stays between two names of functions, as in length-paint. What would get
+the name of something else is called so with _lem behind it; a definition of specs/ keeps the plain name. What is declared below proofs/F for a
+function F keeps its name, and so does every name of src/. A file specs/Contracts.antt becomes specs/Promises.antt, since Rattle makes a module of
+the former name. --list prints the names and changes nothing; a second run changes nothing.
 """
 import os
 import re

@@ -3,7 +3,7 @@
 // What it stands for, and which states are refused, is defined in the crate `definition`, specs/Pauses.antt.
 #![tactic(auto)]
 
-ghost use mathlib.Core.Path.{◌≡◌};
+ghost use Rattle.std.specs.Prelude.{◌≡◌};
 ghost use Rattle.definition.specs.Pauses.{start_at, unused_byte, bad_state};
 ghost use Rattle.decoder_state.specs.States.{saved_in};
 
