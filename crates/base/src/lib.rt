@@ -3,9 +3,10 @@
 
 ghost use Rattle.std.specs.Prelude.{◌≡◌, ◌<◌};
 
-// A byte as a number. An element of a slice is not known to be below 256; an argument is.
+// A byte as a number, with its range, which `usize::from` does not promise. It stays for callers that need the range where it is not
+// known; the crates here write `usize::from`.
 pub fn widen(byte: u8) -> usize
     ensures { (result ≡ byte) × (result < 256) }
 {
-    byte as usize
+    usize::from(byte)
 }

@@ -6,11 +6,11 @@ use native.Mathlib.Nat.{add-zero, add_assoc}
 use native.Mathlib.Omega.{arith}
 use lib.ListN.{length, set, get_or}
 use lib.Bits.{bit_xor}
-use Rattle.byte_runs.specs.Runs.{run, above, taken, xored, mixed, bytes}
+use Rattle.byte_runs.specs.Runs.{run, xored, mixed, bytes}
 use Rattle.byte_runs.proofs.Runs.{run_cong, run-before, Backward, run_over}
 
 -- bytes read before the block is written are those read while it is, if they stand before it
-loaded : (f : ℕ → ℕ → ℕ) (to from row n : ℕ) (l : List ℕ) → from + row ≡ to → n ≤ row
+pub loaded : (f : ℕ → ℕ → ℕ) (to from row n : ℕ) (l : List ℕ) → from + row ≡ to → n ≤ row
     → run (λ (x : List ℕ) (k : ℕ). f (get_or l (from + k) 0) k) to n l ≡ run (λ (x : List ℕ) (k : ℕ). f (get_or x (to + k - row) 0) k) to n l
 loaded f to from row n l e h =
     let v : List ℕ → ℕ → ℕ = λ (x : List ℕ) (k : ℕ). f (get_or l (from + k) 0) k in
@@ -50,13 +50,6 @@ bytes_block w W at m i n len to new l l₀ ew et en h g fits e r =
     ∙ run_over (bytes W) u at m i n l₀ (λ x y k a. refl) h (omega arith) (omega arith) (λ x k. refl)
     ∙ ap (λ (j : ℕ). run (bytes W) at j l₀) en
 
--- a block taken from the place that is m after `from`
-pub copied_block : (s : List ℕ) (from at m i n len to next : ℕ) (new l l₀ : List ℕ) → next ≡ from + m → to ≡ at + m → m + n ≡ len → m ≤ i → i ≤ len → at + len ≤ length l₀
-    → new ≡ run (taken s next) to n l → l ≡ run (taken s from) at i l₀ → new ≡ run (taken s from) at len l₀
-copied_block s from at m i n len to next new l l₀ ex et en h g fits e r =
-    bytes_block (λ (k : ℕ). get_or s (next + k) 0) (λ (k : ℕ). get_or s (from + k) 0) at m i n len to new l l₀
-    (λ k q. ap (λ (j : ℕ). get_or s j 0) (ap (λ (j : ℕ). j + k) ex ∙ add_assoc from m k)) et en h g fits e r
-
 -- one byte is a block of one
 byte_over : (v : List ℕ → ℕ → ℕ) (at m i : ℕ) (l l₀ : List ℕ) → Backward v at → m ≤ i → i ≤ m + 1 → at + (m + 1) ≤ length l₀ → l ≡ run v at i l₀
     → set l (at + m) (v l m) ≡ run v at (m + 1) l₀
@@ -82,39 +75,6 @@ few v at len p b₀ b₁ b₂ l b h g fits ep e₀ e₁ e₂ =
     ap (λ (q : ℕ). set l₂ q b₂) ep ∙ ap (λ (x : ℕ). set l₂ (at + (len - 1)) x) e₂
     ∙ byte_over v at (len - 1) (len / 2 + 1) l₂ l b (omega arith) (omega arith) (omega arith) r₂
     ∙ ap (λ (n : ℕ). run v at n l) en
-
--- the places of `few`, counted from a row back
-module _ (at row len : ℕ) (h : row ≤ at) where
-  place₀ : at - row ≡ at + 0 - row
-  place₀ = omega arith
-
-  place₁ : at - row + len / 2 ≡ at + len / 2 - row
-  place₁ = omega arith
-
-  place₂ : 1 ≤ len → at - row + len - 1 ≡ at + (len - 1) - row
-  place₂ g = omega arith
-
-  pub few-back : (p b₀ b₁ b₂ : ℕ) (l : List ℕ) → 0 < row → 1 ≤ len → len < 4 → at + len ≤ length l → p ≡ at + (len - 1)
-      → b₀ ≡ get_or l (at - row) 0 → b₁ ≡ get_or (set l at b₀) (at - row + len / 2) 0 → b₂ ≡ get_or (set (set l at b₀) (at + len / 2) b₁) (at - row + len - 1) 0
-      → set (set (set l at b₀) (at + len / 2) b₁) p b₂ ≡ run (above at row) at len l
-  few-back p b₀ b₁ b₂ l pos g k fits ep e₀ e₁ e₂ =
-      few (above at row) at len p b₀ b₁ b₂ l (backward_above (λ (b k : ℕ). b) at row pos h) g k fits ep
-      (e₀ ∙ ap (λ (i : ℕ). get_or l i 0) place₀)
-      (e₁ ∙ ap (λ (i : ℕ). get_or (set l at b₀) i 0) place₁)
-      (e₂ ∙ ap (λ (i : ℕ). get_or (set (set l at b₀) (at + len / 2) b₁) i 0) (place₂ g))
-
--- two blocks of n, the second overlapping the first
-pub two_back : (n at row len to from : ℕ) (l₂ l₁ l₀ : List ℕ) → 0 < n → n ≤ len → len ≤ n + n → n ≤ row → row ≤ at → at + len ≤ length l₀
-    → to ≡ at + (len - n) → from + row ≡ to → l₂ ≡ run (taken l₁ from) to n l₁ → l₁ ≡ run (taken l₀ (at - row)) at n l₀ → l₂ ≡ run (above at row) at len l₀
-unfolding run
-two_back n at row len to from l₂ l₁ l₀ pos h g hn hr fits et ef e₂ e₁ =
-    back_block (λ (b k : ℕ). b) at row (len - n) n n len to from l₂ l₁ l₀ et ef (omega arith) pos hn hr (omega arith) h fits e₂
-    (back_block (λ (b k : ℕ). b) at row 0 0 n n at (at - row) l₁ l₀ l₀ (omega arith) (omega arith) (omega arith) pos hn hr (omega arith) (omega arith) (omega arith) e₁ refl)
-
-pub two_in : (n at from len to next : ℕ) (s l₂ l₁ l₀ : List ℕ) → n ≤ len → len ≤ n + n → at + len ≤ length l₀
-    → to ≡ at + (len - n) → next ≡ from + (len - n) → l₂ ≡ run (taken s next) to n l₁ → l₁ ≡ run (taken s from) at n l₀ → l₂ ≡ run (taken s from) at len l₀
-two_in n at from len to next s l₂ l₁ l₀ h g fits et en e₂ e₁ =
-    copied_block s from at (len - n) n n len to next l₂ l₁ l₀ en et (omega arith) (omega arith) h fits e₂ e₁
 
 -- a block of exclusive-or, read first; w are the block's bytes, W the run's
 pub mixed_block : (w W : ℕ → ℕ) (at row m i n len to from : ℕ) (new l l₀ : List ℕ) → ((k : ℕ) → k < n → w k ≡ W (m + k)) → to ≡ at + m → from + row ≡ to → m + n ≡ len

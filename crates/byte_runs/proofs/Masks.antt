@@ -1,17 +1,16 @@
 -- Laws of masks: the test of a bit against the definition's quotient, by one test that antt computes, and the bytes of many masks. Assumes nothing.
 use mathlib.Core.Path.{◌≡◌, refl, sym, ap, ◌∙◌}
-use mathlib.Core.List.{List, [], ◌∷◌, ◌++◌}
+use mathlib.Core.List.{List, [], ◌∷◌}
 use Prim.Native.Nat.{ℕ, zero, suc, ◌+◌, ◌*◌, ◌/◌, ◌%◌, ◌<◌, ◌^◌}
 use native.Mathlib.Nat.{not-suc-le-zero, one-mul, zero-mul, add-zero, add_assoc, mul_comm, mul_assoc, div-div-eq-div-mul, div-eq_of_lt, div-lt_iff_lt-mul, div-one, mod-eq_of_lt, mul-add-div_right, mul-add-mod_self_right, pow-suc}
 use native.Mathlib.Omega.{arith}
 use native.Mathlib.Numerals.{add-one}
-use lib.ListN.{get_or, replicate}
+use lib.ListN.{get_or}
 use lib.Bits.{bit_and}
 use Rattle.byte_runs.specs.Runs.{both, inked, inked_by, masked_by, turn}
-use mathlib.Core.Bool.{Bool, true, false}
-use mathlib.Core.Logic.{◌⊎◌, ⊎_elim}
+use mathlib.Core.Bool.{Bool, true, false, cond}
 use lib.Dec.{eqb}
-use borrow.Author.Tests.{eq-eqb, ne_eqb, eqb-true}
+use borrow.Author.Tests.{eqb-true}
 use Rattle.base.proofs.Tests.{both_true, before_or_last}
 
 -- the test f passes at each number below n
@@ -44,30 +43,15 @@ right m k = eqb (one (found m (get_or tests k 0))) (m / 2 ^ k % 2)
 bits_right : (m k : ℕ) → m < 256 → k < 8 → one (found m (get_or tests k 0)) ≡ m / 2 ^ k % 2
 bits_right m k h g = eqb-true _ _ (below (right m) 8 (below (λ (n : ℕ). upto (right n) 8) 256 refl m h) k g)
 
--- each of them d times, for pixels of d bytes
-abbrev spread : ℕ → List ℕ → List ℕ
-spread d [] = []
-spread d (b ∷ bs) = replicate d b ++ spread d bs
-
-abbrev right_by : ℕ → ℕ → Bool
-right_by d i = eqb (get_or (spread d tests) i 0) (get_or tests (i / d) 0)
-
--- byte i, of pixel k: the code found the pixel's bit set, and t is the color's byte a, or clear, and t is zero. That each byte is tested by its
--- pixel's bit is computed for the depth, by `refl`.
-pub ink_found : (d m i k a t : ℕ) {S C : Type 0} → upto (right_by d) (8 * d) ≡ true → m < 256 → i < 8 * d → k ≡ i / d
-    → (S → (bit_and (m * 257) (get_or (spread d tests) i 0) ≡ get_or (spread d tests) i 0) × (t ≡ a))
-    → (C → (bit_and (m * 257) (get_or (spread d tests) i 0) ≡ get_or (spread d tests) i 0 → ⊥) × (t ≡ 0))
-    → S ⊎ C → t ≡ inked m a k
-ink_found d m i k a t all h g e set clear came =
-    let b : ℕ = get_or (spread d tests) i 0 in
-    let hd : 0 < d = omega arith in
-    let hk : k < 8 = rw e ((div-lt_iff_lt-mul hd).1 g) in
-    let is : b ≡ get_or tests k 0 = eqb-true _ _ (below (right_by d) (8 * d) all i g) ∙ ap (λ (j : ℕ). get_or tests j 0) (sym e) in
-    let bit : one (found m b) ≡ m / 2 ^ k % 2 = ap (λ (x : ℕ). one (found m x)) is ∙ bits_right m k h hk in
-    ⊎_elim {C = t ≡ inked m a k}
-    (λ s. (set s).1 ∙ sym (one-mul a) ∙ ap (λ (x : ℕ). x * a) (ap one (sym (eq-eqb _ _ (set s).0)) ∙ bit))
-    (λ s. (clear s).1 ∙ sym (zero-mul a) ∙ ap (λ (x : ℕ). x * a) (ap one (sym (ne_eqb _ _ (clear s).0)) ∙ bit))
-    came
+-- byte i of pixels of d bytes, tested by its pixel's bit: the color's byte a where it is set, zero where it is clear
+pub ink_found : (d m i b a : ℕ) → 0 < d → m < 256 → i < 8 * d → b ≡ get_or tests (i / d) 0 → cond (found m b) a 0 ≡ inked m a (i / d)
+ink_found d m i b a hd h g e =
+    let hk : i / d < 8 = (div-lt_iff_lt-mul hd).1 g in
+    picked (found m b) a ∙ ap (λ (x : ℕ). x * a) (ap (λ (x : ℕ). one (found m x)) e ∙ bits_right m (i / d) h hk)
+  where
+    picked : (t : Bool) (n : ℕ) → cond t n 0 ≡ one t * n
+    picked true n = sym (one-mul n)
+    picked false n = sym (zero-mul n)
 
 -- a mask that is halved turn by turn
 pub half : (mask m i : ℕ) → m ≡ mask / 2 ^ i → m / 2 ≡ mask / 2 ^ (i + 1)
@@ -76,29 +60,6 @@ half mask m i e =
 
 pub whole : (mask : ℕ) → mask ≡ mask / 2 ^ 0
 whole mask = sym (div-one mask)
-
--- mask i of d-byte pixels
-mask_by : (s px p : List ℕ) (pos d i n k : ℕ) → get_or p k 0 ≡ turn px d k → i ≡ (i * n + k) / (8 * d) → k / d ≡ (i * n + k) / d % 8 → k % d ≡ (i * n + k) % d
-    → inked_by (get_or s (pos + i) 0) d p k ≡ masked_by s pos d px (i * n + k)
-mask_by s px p pos d i n k e q r z =
-    ap (λ (b : ℕ). inked (get_or s (pos + i) 0) b (k / d)) (e ∙ ap (λ (j : ℕ). get_or px j 0) z)
-    ∙ ap (λ (j : ℕ). inked (get_or s (pos + i) 0) (turn px d (i * n + k)) j) r
-    ∙ ap (λ (j : ℕ). inked (get_or s (pos + j) 0) (turn px d (i * n + k)) ((i * n + k) / d % 8)) q
-
-pub mask_at2 : (s px p : List ℕ) (pos i : ℕ) → ((k : ℕ) → k < 16 → get_or p k 0 ≡ turn px 2 k)
-    → (k : ℕ) → k < 16 → inked_by (get_or s (pos + i) 0) 2 p k ≡ masked_by s pos 2 px (i * 16 + k)
-mask_at2 s px p pos i e k h = mask_by s px p pos 2 i 16 k (e k h) (omega arith) (omega arith) (omega arith)
-
-pub mask_at3 : (s px p : List ℕ) (pos i : ℕ) → ((k : ℕ) → k < 24 → get_or p k 0 ≡ turn px 3 k)
-    → (k : ℕ) → k < 24 → inked_by (get_or s (pos + i) 0) 3 p k ≡ masked_by s pos 3 px (i * 24 + k)
-mask_at3 s px p pos i e k h = mask_by s px p pos 3 i 24 k (e k h) (omega arith) (omega arith) (omega arith)
-
-pub mask_at1 : (s : List ℕ) (pos a b c i k : ℕ) → k < 8 → inked (get_or s (pos + i) 0) a k ≡ masked_by s pos 1 (a ∷ b ∷ c ∷ []) (i * 8 + k)
-mask_at1 s pos a b c i k h =
-    let q : i ≡ (i * 8 + k) / (8 * 1) = omega arith in
-    let z : 0 ≡ (i * 8 + k) % 1 = omega arith in
-    let r : k ≡ (i * 8 + k) / 1 % 8 = omega arith in
-    λ t. inked (get_or s (pos + q t) 0) (get_or (a ∷ b ∷ c ∷ []) (z t) 0) (r t)
 
 -- the bytes from mask i on are those of the masks from place 8 * d * i on
 pub masks-from : (s px : List ℕ) (pos d i k : ℕ) → 0 < d → masked_by s (pos + i) d px k ≡ masked_by s pos d px (i * 8 * d + k)
@@ -112,6 +73,19 @@ masks-from s px pos d i k h =
     ap (λ (j : ℕ). inked (get_or s j 0) (turn px d k) (k / d % 8)) q
     ∙ ap (λ (j : ℕ). inked (get_or s (pos + n / (8 * d)) 0) (get_or px j 0) (k / d % 8)) (sym (mul-add-mod_self_right (i * 8) d k))
     ∙ ap (λ (j : ℕ). inked (get_or s (pos + n / (8 * d)) 0) (turn px d n) j) r
+
+-- mask i, of n bytes: p are the color's bytes
+pub mask_at : (s px p : List ℕ) (pos d n i k : ℕ) → 0 < d → n ≡ 8 * d → k < n → get_or p k 0 ≡ turn px d k
+    → inked_by (get_or s (pos + i) 0) d p k ≡ masked_by s pos d px (i * n + k)
+mask_at s px p pos d n i k hd en h e =
+    let hk : k / d < 8 = (div-lt_iff_lt-mul hd).1 (omega arith) in
+    let q : i + k / (8 * d) ≡ i = ap (λ (j : ℕ). i + j) (div-eq_of_lt (omega arith)) ∙ add-zero i in
+    let m : i * 8 * d ≡ i * n = mul_assoc i 8 d ∙ ap (λ (j : ℕ). i * j) (sym en) in
+    ap (λ (b : ℕ). inked (get_or s (pos + i) 0) b (k / d)) e
+    ∙ ap (λ (j : ℕ). inked (get_or s (pos + i) 0) (turn px d k) j) (sym (mod-eq_of_lt hk))
+    ∙ ap (λ (j : ℕ). inked (get_or s j 0) (turn px d k) (k / d % 8)) (ap (λ (j : ℕ). pos + j) (sym q) ∙ sym (add_assoc pos i (k / (8 * d))))
+    ∙ masks-from s px pos d i k hd
+    ∙ ap (λ (j : ℕ). masked_by s pos d px (j + k)) m
 
 -- byte j of pixel i of one mask, which is halved turn by turn
 pub part_byte : (s px : List ℕ) (pos d i j k m a x : ℕ) → i < 8 → j < d → k ≡ i * d + j → m ≡ get_or s pos 0 / 2 ^ i → x ≡ m % 2 * a → a ≡ turn px d k

@@ -2,18 +2,31 @@
 use mathlib.Core.Path.{◌≡◌, refl, sym, ap, ◌∙◌}
 use mathlib.Core.List.{List}
 use Prim.Native.Nat.{ℕ, zero, suc, ◌+◌, ◌-◌, ◌*◌, ◌/◌, ◌%◌, ◌≤◌, ◌<◌, min}
-use native.Mathlib.Nat.{add-zero, zero-add, add-suc, add_assoc, eq-or-lt_of_le, mod-add-mod, mod-mod, mod-lt, min-le_left, mul-add-mod_self_right, div-add-mod', add_comm}
+use native.Mathlib.Nat.{add-zero, zero-add, add-suc, add_assoc, eq-or-lt_of_le, mod-add-mod, mod-eq_of_lt, mod_self, min-le_left, mul-add-mod_self_right, add-mul, mul-le-mul_right, div-add-mod', add_comm}
 use native.Mathlib.Omega.{arith}
 use mathlib.Core.Logic.{⊎_elim}
+use lib.Dec.{leb}
 use lib.ListN.{length, set, get_or}
-use lib.Bits.{bit_xor}
-use Rattle.byte_runs.specs.Runs.{run, above, xored, mixed, bytes, turn, each, repeated}
-use Rattle.byte_runs.proofs.Runs.{run_cong, run_settled, run_idle, run_over}
-use Rattle.byte_runs.proofs.Blocks.{mixed_block}
+use mathlib.Core.Bool.{true}
+use borrow.Author.Tests.{le-leb}
+use borrow.Rule.Slice.PartMut.{put_mid}
+use Rattle.byte_runs.specs.Runs.{run, run_where, both, there, above, xored, mixed, bytes, is_depth, turn, each, repeated}
+use Rattle.byte_runs.proofs.Runs.{length_run, run_settled, run_idle}
+use Rattle.byte_runs.proofs.Arrays.{placed}
+use Rattle.byte_runs.proofs.Blocks.{bytes_block, mixed_block}
+use Rattle.byte_runs.proofs.Fits.{both_hold, back-there}
+use Rattle.byte_runs.proofs.Pixels.{turn_byte}
 
 -- a pattern from a multiple of its period on
-turn_at : (w : List ℕ) (d m k : ℕ) → m % d ≡ 0 → get_or w k 0 ≡ turn w d k → get_or w k 0 ≡ turn w d (m + k)
-turn_at w d m k z e = e ∙ ap (λ (x : ℕ). get_or w x 0) (ap (λ (x : ℕ). x % d) (sym (zero-add k)) ∙ ap (λ (x : ℕ). (x + k) % d) (sym z) ∙ mod-add-mod m d k)
+turn_at : (px : List ℕ) (d m k : ℕ) → m % d ≡ 0 → turn px d k ≡ turn px d (m + k)
+turn_at px d m k z = ap (λ (x : ℕ). get_or px x 0) (ap (λ (x : ℕ). x % d) (sym (zero-add k)) ∙ ap (λ (x : ℕ). (x + k) % d) (sym z) ∙ mod-add-mod m d k)
+
+-- n bytes that hold whole pixels are all of the pattern that `pattern` makes
+pub whole_pattern : (px t : List ℕ) (d n : ℕ) → 1 ≤ d → d ≤ 3 → n % d ≡ 0 → (is_depth d ≡ true → (k : ℕ) → k < n / d * d → get_or t k 0 ≡ turn px d k)
+    → (k : ℕ) → k < n → get_or t k 0 ≡ turn px d k
+whole_pattern px t d n low high z all k h =
+    let q : n / d * d ≡ n = sym (add-zero (n / d * d)) ∙ ap (λ (y : ℕ). n / d * d + y) (sym z) ∙ div-add-mod' n d in
+    all (both_hold _ _ (le-leb 1 d low) (le-leb d 3 high)) k (rw q h)
 
 pub mod_sum : (a b d : ℕ) → a % d ≡ 0 → b % d ≡ 0 → (a + b) % d ≡ 0
 mod_sum a b d ea eb = sym (mod-add-mod a d b) ∙ ap (λ (x : ℕ). (x + b) % d) ea ∙ ap (λ (x : ℕ). x % d) (zero-add b) ∙ eb
@@ -35,30 +48,16 @@ place_mod i len d h e el ei =
     ap (λ (x : ℕ). x % d) l ∙ mod_less (len - 48) d e (ap (λ (x : ℕ). x % d) z ∙ el))
     (eq-or-lt_of_le (min-le_left i (len - 48)))
 
-module _ (w : List ℕ) (d at row i len p : ℕ) (new l l₀ : List ℕ) where
+-- a block w of the pattern px; the last block ends where the run ends
+module _ (px w : List ℕ) (d at row i len p : ℕ) (new l l₀ : List ℕ) where
   pub pattern_block : p ≡ min i (len - 48) → i < len → 48 ≤ len → 48 ≤ row → row ≤ at → at + len ≤ length l₀
-      → 48 % d ≡ 0 → len % d ≡ 0 → i % d ≡ 0 → ((k : ℕ) → k < 48 → get_or w k 0 ≡ turn w d k)
-      → new ≡ run (mixed l (at + p - row) (each w)) (at + p) 48 l → l ≡ run (xored at row (turn w d)) at (min i len) l₀
-      → new ≡ run (xored at row (turn w d)) at (min (i + 48) len) l₀
+      → 48 % d ≡ 0 → len % d ≡ 0 → i % d ≡ 0 → ((k : ℕ) → k < 48 → get_or w k 0 ≡ turn px d k)
+      → new ≡ run (mixed l (at + p - row) (each w)) (at + p) 48 l → l ≡ run (xored at row (turn px d)) at (min i len) l₀
+      → new ≡ run (xored at row (turn px d)) at (min (i + 48) len) l₀
   pattern_block ep hi hl hr ha fits e48 el ei per e r =
-      mixed_block (each w) (turn w d) at row p (min i len) 48 (min (i + 48) len) (at + p) (at + p - row) new l l₀
-      (λ k q. turn_at w d p k (ap (λ (x : ℕ). x % d) ep ∙ place_mod i len d hl e48 el ei) (per k q))
+      mixed_block (each w) (turn px d) at row p (min i len) 48 (min (i + 48) len) (at + p) (at + p - row) new l l₀
+      (λ k q. per k q ∙ turn_at px d p k (ap (λ (x : ℕ). x % d) ep ∙ place_mod i len d hl e48 el ei))
       refl (omega arith) (omega arith) (omega arith) hr ha (omega arith) (omega arith) (omega arith) e r
-
--- a pattern t that repeats px: it repeats itself, and serves in its place
-module _ (px t : List ℕ) (d : ℕ) (hd : 1 ≤ d) (h48 : d ≤ 48) (e : (k : ℕ) → k < 48 → get_or t k 0 ≡ turn px d k) where
-  turn_of : (k : ℕ) → turn t d k ≡ turn px d k
-  turn_of k =
-      let q : k % d < d = mod-lt k (omega arith) in
-      e (k % d) (omega arith) ∙ ap (λ (x : ℕ). get_or px x 0) (mod-mod k d)
-
-  pub turn_own : (k : ℕ) → k < 48 → get_or t k 0 ≡ turn t d k
-  turn_own k h = e k h ∙ sym (turn_of k)
-
-  pub xored_by : (at row n : ℕ) (l : List ℕ) → run (xored at row (turn t d)) at n l ≡ run (xored at row (turn px d)) at n l
-  xored_by at row n l =
-      run_cong (xored at row (turn t d)) (xored at row (turn px d)) at n l
-      (λ k q. ap (λ (b : ℕ). bit_xor (get_or (run (xored at row (turn t d)) at k l) (at + k - row) 0) b) (turn_of k))
 
 -- BACK: a run of bytes that repeat after p of them: the rest is copied from p places back
 run-back : (w : ℕ → ℕ) (at p m : ℕ) (l : List ℕ) → 0 < p → ((k : ℕ) → w (p + k) ≡ w k) → at + (p + m) ≤ length l
@@ -74,39 +73,49 @@ run-back w at p (suc m) l hp per fits =
     ∙ ap (λ (i : ℕ). set (r (p + m)) i (w (p + m))) (add_assoc at p m)
     ∙ ap r (sym (add-suc p m))
 
--- the 48 bytes that are there are a run of themselves
-own_48 : (at : ℕ) (l : List ℕ) → l ≡ run (bytes (repeated l at 48)) at 48 l
-own_48 at l = sym (run_idle (bytes (repeated l at 48)) at 48 l (λ k h. let z : k % 48 ≡ k = omega arith in ap (λ (j : ℕ). get_or l (at + j) 0) z))
+-- the first p bytes from `at` on, over and over: they are a run of themselves, and repeat after any multiple of p
+module _ (at p : ℕ) (l : List ℕ) where
+  pub own-run : l ≡ run (bytes (repeated l at p)) at p l
+  own-run = sym (run_idle (bytes (repeated l at p)) at p l (λ k h. ap (λ (j : ℕ). get_or l (at + j) 0) (mod-eq_of_lt h)))
 
-period : (at : ℕ) (l : List ℕ) (p k : ℕ) → (p + k) % 48 ≡ k % 48 → repeated l at 48 (p + k) ≡ repeated l at 48 k
-period at l p k e = ap (λ (j : ℕ). get_or l (at + j) 0) e
+  period : (m k : ℕ) → m % p ≡ 0 → repeated l at p (m + k) ≡ repeated l at p k
+  period m k z =
+      ap (λ (j : ℕ). get_or l (at + j) 0) (sym (mod-add-mod m p k) ∙ ap (λ (x : ℕ). (x + k) % p) z ∙ ap (λ (x : ℕ). x % p) (zero-add k))
 
--- the steps of `repeat48`
-pub repeat_one : (at len : ℕ) (l₁ l : List ℕ) → 48 ≤ len → at + len ≤ length l → l₁ ≡ run (above (at + 48) 48) (at + 48) (len - 48) l
-    → l₁ ≡ run (bytes (repeated l at 48)) at len l
-repeat_one at len l₁ l h fits e =
-    let n : 48 + (len - 48) ≡ len = omega arith in
-    e ∙ ap (λ (x : List ℕ). run (above (at + 48) 48) (at + 48) (len - 48) x) (own_48 at l)
-    ∙ run-back (repeated l at 48) at 48 (len - 48) l (omega arith) (λ k. period at l 48 k (omega arith)) (omega arith)
-    ∙ ap (λ (j : ℕ). run (bytes (repeated l at 48)) at j l) n
+  -- n more bytes, copied from as many bytes back as are there
+  pub repeated_more : (m n row to : ℕ) (new l₁ : List ℕ) → 0 < m → m % p ≡ 0 → at + (m + n) ≤ length l → row ≡ m → to ≡ at + m
+      → new ≡ run (above to row) to n l₁ → l₁ ≡ run (bytes (repeated l at p)) at m l → new ≡ run (bytes (repeated l at p)) at (m + n) l
+  repeated_more m n row to new l₁ pos z fits er et e r =
+      e ∙ ap (λ (j : ℕ). run (above to j) to n l₁) er ∙ ap (λ (j : ℕ). run (above j m) j n l₁) et ∙ ap (λ (x : List ℕ). run (above (at + m) m) (at + m) n x) r
+      ∙ run-back (repeated l at p) at m n l pos (λ k. period m k z) fits
 
-pub repeat_two : (at len : ℕ) (l₂ l₁ l : List ℕ) → 192 ≤ len → at + len ≤ length l → l₂ ≡ run (above (at + 192) 192) (at + 192) (len - 192) l₁
-    → l₁ ≡ run (above (at + 48) 48) (at + 48) 144 l → l₂ ≡ run (bytes (repeated l at 48)) at len l
-repeat_two at len l₂ l₁ l h fits e₂ e₁ =
-    let n : 192 + (len - 192) ≡ len = omega arith in
-    e₂ ∙ ap (λ (x : List ℕ). run (above (at + 192) 192) (at + 192) (len - 192) x) (repeat_one at 192 l₁ l (omega arith) (omega arith) e₁)
-    ∙ run-back (repeated l at 48) at 192 (len - 192) l (omega arith) (λ k. period at l 192 k (omega arith)) (omega arith)
-    ∙ ap (λ (j : ℕ). run (bytes (repeated l at 48)) at j l) n
+  -- the bytes behind the first p are copied from p bytes back
+  pub repeated_back : (n to : ℕ) (new : List ℕ) → 0 < p → at + (p + n) ≤ length l → to ≡ at + p
+      → new ≡ run (bytes (repeated l at p)) at (p + n) l → new ≡ run (above to p) to n l
+  repeated_back n to new pos fits et e =
+      e ∙ sym (run-back (repeated l at p) at p n l pos (λ k. period p k (mod_self p)) fits)
+      ∙ ap (λ (x : List ℕ). run (above (at + p) p) (at + p) n x) (sym own-run)
+      ∙ ap (λ (j : ℕ). run (above j p) j n l) (sym et)
 
--- 48 bytes of a pattern, repeated, are the pattern
-pub repeated-run : (w : ℕ → ℕ) (at len : ℕ) (l₂ l₁ l : List ℕ) → 48 ≤ len → at + len ≤ length l → ((k : ℕ) → w (k % 48) ≡ w k)
-    → l₂ ≡ run (bytes (repeated l₁ at 48)) at len l₁ → l₁ ≡ run (bytes w) at 48 l → l₂ ≡ run (bytes w) at len l
-repeated-run w at len l₂ l₁ l h fits per e₂ e₁ =
-    e₂ ∙ run_cong (bytes (repeated l₁ at 48)) (bytes w) at len l₁
-    (λ k q.
-    let z : k % 48 < 48 = mod-lt k (omega arith) in
-    ap (λ (x : List ℕ). get_or x (at + k % 48) 0) e₁ ∙ run_settled (bytes w) at 48 (k % 48) l (λ x y j a. refl) z (omega arith) ∙ per k)
-    ∙ ap (λ (x : List ℕ). run (bytes w) at len x) e₁
-    ∙ ap (λ (p : ℕ). run (bytes w) p len (run (bytes w) at 48 l)) (sym (add-zero at))
-    ∙ run_over (bytes w) (bytes w) at 0 48 len l (λ x y j a. refl) (omega arith) (omega arith) (omega arith) (λ x j. ap w (sym (zero-add j)))
-    ∙ ap (λ (n : ℕ). run (bytes w) at n l) (zero-add len)
+-- one unit of d bytes more, put in place of as many
+pub unit_more : (p : List ℕ) (d at i to m : ℕ) (l l₀ part : List ℕ) → to ≡ at + i * d → m ≡ d → d ≡ length p → at + (i + 1) * d ≤ length l₀ → part ≡ p
+    → l ≡ run (bytes (turn p d)) at (i * d) l₀ → put_mid to m l part ≡ run (bytes (turn p d)) at ((i + 1) * d) l₀
+unit_more p d at i to m l l₀ part et em ep fits e r =
+    let more : i * d + d ≡ (i + 1) * d = omega arith in
+    let long : length l ≡ length l₀ = ap (λ (x : List ℕ). length x) r ∙ length_run (bytes (turn p d)) at (i * d) l₀ in
+    bytes_block (each p) (turn p d) at (i * d) (i * d) d ((i + 1) * d) to (put_mid to m l part) l l₀
+    (λ k h. sym (turn_byte d i k p h)) et more (omega arith) (omega arith) fits
+    (placed (each p) to m d l part em (ep ∙ ap (λ (x : List ℕ). length x) (sym e)) (omega arith) (λ k h. ap (λ (x : List ℕ). get_or x k 0) e)) r
+
+-- n units, of which the first m are stored and the others copied from them
+pub unit_copies : (p : List ℕ) (d at m n : ℕ) (l₂ l₁ l : List ℕ) → 0 < m → 0 < d → m ≤ n → at + n * d ≤ length l
+    → l₂ ≡ run_where (both (leb (m * d) (at + m * d)) (there (at + m * d) ((n - m) * d) l₁)) (above (at + m * d) (m * d)) (at + m * d) ((n - m) * d) l₁
+    → l₁ ≡ run (bytes (turn p d)) at (m * d) l → l₂ ≡ run (bytes (turn p d)) at (n * d) l
+unit_copies p d at m n l₂ l₁ l some wide h fits e₂ e₁ =
+    let pos : 1 * d ≤ m * d = mul-le-mul_right {m = 1} {n = m} d some in
+    let sum : m * d + (n - m) * d ≡ n * d = sym (add-mul m (n - m) d) ∙ ap (λ (j : ℕ). j * d) (let e : m + (n - m) ≡ n = omega arith in e) in
+    let long : length l₁ ≡ length l = ap (λ (x : List ℕ). length x) e₁ ∙ length_run (bytes (turn p d)) at (m * d) l in
+    back-there (at + m * d) ((n - m) * d) (m * d) l₂ l₁ (omega arith) (omega arith) e₂
+    ∙ ap (λ (x : List ℕ). run (above (at + m * d) (m * d)) (at + m * d) ((n - m) * d) x) e₁
+    ∙ run-back (turn p d) at (m * d) ((n - m) * d) l (omega arith) (λ k. ap (λ (j : ℕ). get_or p j 0) (mul-add-mod_self_right m d k)) (omega arith)
+    ∙ ap (λ (j : ℕ). run (bytes (turn p d)) at j l) sum

@@ -1,5 +1,5 @@
 -- Bytes written one after the other from a place on.
-use Rattle.std.specs.Prelude.{Bool, true, false, List, ◌++◌, ℕ, zero, suc, ◌+◌, ◌-◌, ◌*◌, ◌/◌, ◌%◌, ◌^◌, leb, length, get_or, set, take}
+use Rattle.std.specs.Prelude.{Bool, true, false, Option, None, Some, List, ◌++◌, ℕ, zero, suc, ◌+◌, ◌-◌, ◌*◌, ◌/◌, ◌%◌, ◌^◌, leb, length, get_or, set, take}
 use Rattle.std.specs.Int.Bits.{bit_xor}
 use Rattle.base.specs.Picks.{pick}
 
@@ -26,9 +26,10 @@ is_depth d = both (leb 1 d) (leb d 3)
 abbrev pub pixels_there : ℕ → ℕ → ℕ → List ℕ → Bool
 pixels_there d at n l = both (is_depth d) (there at (n * d) l)
 
--- the bytes `row` places before `at` are there, or it is the first row, which looks at none
-abbrev pub row_there : Bool → ℕ → ℕ → Bool
-row_there first row at = pick first true (leb row at)
+-- the bytes so many places before `at` are there, or it is the first row, which looks at none
+abbrev pub row_there : Option ℕ → ℕ → Bool
+row_there None at = true
+row_there (Some row) at = leb row at
 
 -- where the test holds the run, else nothing
 abbrev pub run_where : Bool → (List ℕ → ℕ → ℕ) → ℕ → ℕ → List ℕ → List ℕ
@@ -71,9 +72,10 @@ mixed s from w l k = bit_xor (get_or s (from + k) 0) (w k)
 abbrev pub bytes : (ℕ → ℕ) → List ℕ → ℕ → ℕ
 bytes w l k = w k
 
--- in the first row w k, later the byte `row` places back, exclusive-or w k
-abbrev pub row_bytes : Bool → ℕ → ℕ → (ℕ → ℕ) → List ℕ → ℕ → ℕ
-row_bytes first at row w = pick first (bytes w) (xored at row w)
+-- in the first row w k, later the byte so many places back, exclusive-or w k
+abbrev pub row_bytes : Option ℕ → ℕ → (ℕ → ℕ) → List ℕ → ℕ → ℕ
+row_bytes None at w = bytes w
+row_bytes (Some row) at w = xored at row w
 
 -- a where bit k of m is set, else 0
 abbrev pub inked : ℕ → ℕ → ℕ → ℕ

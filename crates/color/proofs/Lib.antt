@@ -3,6 +3,6 @@ pub mod Whites
 pub mod Triples
 pub mod Lowest
 pub mod Every
-pub mod Blocks
+pub mod Bytes
 pub mod Valid
 pub mod Meaning

@@ -1,18 +1,18 @@
 -- Palette look gives the lowest index that has the triple, and nothing exactly if none has it; no other answer is right. Assumes nothing.
 use mathlib.Core.Path.{◌≡◌, refl}
 use mathlib.Core.List.{List, [], ◌∷◌, ◌++◌}
-use mathlib.Core.Bool.{Bool, true, false}
-use Prim.Native.Nat.{ℕ, zero, suc, ◌+◌, ◌-◌, ◌≤◌, ◌<◌}
-use native.Mathlib.Numerals.{add-one}
+use mathlib.Core.Bool.{true, false}
+use Prim.Native.Nat.{ℕ, zero, suc, ◌+◌, ◌≤◌, ◌<◌, zero-le}
 use native.Mathlib.Omega.{arith}
 use lib.Dec.{leb}
 use lib.ListN.{length, replicate}
 use borrow.Author.Tests.{leb-true, leb-false, le-leb}
-use Rattle.base.proofs.Tests.{by_test, by_less, before_or_last, apart}
+use Rattle.base.proofs.Tests.{by_test, by_less, before_or_last, clash, apart}
 use Rattle.picture.specs.Pixels.{pixel_at, first_pixel}
 use Rattle.picture.proofs.Pixels.{length-first_pixel}
-use Rattle.color.specs.declared.palette.Look.{Look}
-use Rattle.color.specs.declared.palette.Look.TheVariants.{At, Nothing}
+use Rattle.std.specs.Prelude.{Option, Some, None, MatchOption}
+use Rattle.std.specs.Str.{bytes_eq}
+use Rattle.std.proofs.lemmas.Slice.Eq.{bytes_eq-Decides}
 use Rattle.color.specs.Colors.{Triple, same_triple, entry}
 use Rattle.color.specs.Look.{Looked, lowest_from, lowest_index}
 use Rattle.color.proofs.Triples.{same-equal, equal-same}
@@ -24,28 +24,10 @@ abbrev repeating : List ℕ
 repeating = replicate 762 0 ++ (10 ∷ 20 ∷ 30 ∷ 10 ∷ 20 ∷ 30 ∷ [])
 
 pub repeats_computed :
-    (lowest_index repeating (0 ∷ 0 ∷ 0 ∷ []) ≡ At 0) × (lowest_index repeating (10 ∷ 20 ∷ 30 ∷ []) ≡ At 254)
-    × (lowest_index repeating (30 ∷ 20 ∷ 10 ∷ []) ≡ Nothing)
+    (lowest_index repeating (0 ∷ 0 ∷ 0 ∷ []) ≡ Some 0) × (lowest_index repeating (10 ∷ 20 ∷ 30 ∷ []) ≡ Some 254)
+    × (lowest_index repeating (30 ∷ 20 ∷ 10 ∷ []) ≡ None)
 unfolding lowest_index lowest_from entry same_triple pixel_at first_pixel
 repeats_computed = (refl, refl, refl)
-
--- ---- one entry on
-
--- the code's reading s of entry i, and what its comparison with the triple gave
-module _ (palette : List ℕ) (t : Triple) (i : ℕ) (h : i < 256) {s : Triple} {r : Bool} (es : s ≡ entry palette i) (er : r ≡ same_triple s t) where
-  test : same_triple (entry palette i) t ≡ r
-  test = cc
-
-  one_more : 256 - i ≡ suc (256 - (i + 1))
-  one_more = omega arith
-
-  pub found : r ≡ true → lowest_from palette t i (256 - i) ≡ At i
-  unfolding lowest_from
-  found e = rw (one_more, test, e) refl
-
-  pub passed : r ≡ false → lowest_from palette t (i + 1) (256 - (i + 1)) ≡ lowest_from palette t i (256 - i)
-  unfolding lowest_from
-  passed e = rw (one_more, test, e, add-one i) refl
 
 -- ---- what the definition says
 
@@ -74,16 +56,32 @@ module _ (palette : List ℕ) (t : Triple) (three : length t ≡ 3) where
       (λ h. looked_from 0 256 refl (leb-true 768 (length palette) h) (λ k l. absurd (omega arith)))
       (λ h i m. apart (omega (arith, m.long, leb-false 768 (length palette) h)))
 
-  only_answer : (r s : Look) → Looked palette t r → Looked palette t s → r ≡ s
-  only_answer (At i) (At k) p q =
+  only_answer : (r s : Option ℕ) → Looked palette t r → Looked palette t s → r ≡ s
+  only_answer (Some i) (Some k) p q =
       by_less i k (λ l. absurd (q.1 i l p.0))
       (λ h. by_less k i (λ l. absurd (p.1 k l q.0)) (λ l. let e : i ≡ k = omega arith in rw e refl))
-  only_answer (At i) Nothing p q = absurd (q i p.0)
-  only_answer Nothing (At k) p q = absurd (p k q.0)
-  only_answer Nothing Nothing p q = refl
+  only_answer (Some i) None p q = absurd (q i p.0)
+  only_answer None (Some k) p q = absurd (p k q.0)
+  only_answer None None p q = refl
 
-  pub looked_lowest : (r : Look) → Looked palette t r → r ≡ lowest_index palette t
+  pub looked_lowest : (r : Option ℕ) → Looked palette t r → r ≡ lowest_index palette t
   looked_lowest r p = only_answer r (lowest_index palette t) p lowest_looked
+
+-- ---- what a search over the indices finds
+
+module _ (palette : List ℕ) (t : Triple) (long : 768 ≤ length palette) where
+  abbrev Differs : ℕ → Type 0
+  Differs k = bytes_eq (entry palette k) t ≡ false
+
+  differs_lem : (k : ℕ) → Differs k → entry palette k ≡ t → ⊥
+  differs_lem k e is = clash ((bytes_eq-Decides (entry palette k) t).1 is) e
+
+  pub looked_first : (r : Option ℕ)
+      → MatchOption r ((k : ℕ) → 0 ≤ k → k < 256 → Differs k)
+      (λ i. (0 ≤ i) × (i < 256) × (bytes_eq (entry palette i) t ≡ true) × ((k : ℕ) → 0 ≤ k → k < i → Differs k)) → Looked palette t r
+  looked_first None none = λ i m. differs_lem i (none i zero-le m.index) m.equal
+  looked_first (Some i) (l, h, e, before) =
+      (record { long = long; index = h; equal = (bytes_eq-Decides (entry palette i) t).0 e }, λ k b m. differs_lem k (before k zero-le b) m.equal)
 
 -- ---- two palettes
 

@@ -15,7 +15,7 @@ use Rattle.picture.proofs.Depths.{depth_good}
 use Rattle.picture.proofs.Pixels.{pixel_at_cong}
 use Rattle.color.specs.Colors.{both, channel, color_of, expand_word, palette_fits, same_triple, word}
 use Rattle.color.specs.SamePicture.{Picture, Alike, picture, valid, color_at, every_below, same_bytes, same_colors, same_picture, same_stored}
-use Rattle.color.proofs.Blocks.{same_bytes_lem, bytes_same}
+use Rattle.color.proofs.Bytes.{same_bytes_lem, bytes_same}
 use Rattle.color.proofs.Every.{not_yes, passes_every}
 use Rattle.color.proofs.Valid.{valid-painted}
 use Rattle.color.proofs.Triples.{equal-same}

@@ -1,14 +1,12 @@
 -- Expansion: one pixel becomes a blue, a green and a red byte, in this order; bytes that the depth does not use are ignored.
 -- `expand` gives what `expanded` says, and same picture compares the same colors. The rule of a channel stands in one place,
 -- `channel`.
-use Rattle.std.specs.Prelude.{List, [], ◌∷◌, Bool, true, false, ℕ, ◌+◌, ◌*◌, ◌/◌, ◌%◌, eqb, leb, length, get_or}
+use Rattle.std.specs.Prelude.{List, [], ◌∷◌, Bool, true, false, ℕ, ◌+◌, ◌*◌, ◌/◌, ◌%◌, eqb, leb, length, get_or, Result, Ok, Err}
 use Rattle.base.specs.Picks.{pick}
 use Rattle.picture.specs.Pixels.{Pixel, pixel_at}
 use Rattle.picture.specs.Sizes.{Refusal, refusal, depth_index}
 use Rattle.picture.specs.Outcomes.{refusal_of}
-use Rattle.color.specs.declared.pixel.Expansion.{Expansion as CodeExpansion}
-use Rattle.color.specs.declared.pixel.Expansion.TheVariants.{Done, Refused}
-use Rattle.color.specs.declared.pixel.Expanded.{Expanded}
+use Rattle.picture.specs.declared.outcome.RleError.{RleError}
 
 -- blue, green, red
 abbrev pub Triple : Type 0
@@ -65,10 +63,7 @@ expanded palette bpp p =
     pick (leb 4 (depth_index bpp)) (refusing (refusal 1 bpp 0))
     (pick (palette_fits bpp palette) (giving (color_of palette bpp p)) (refusing (refusal 4 768 (length palette))))
 
--- number and values of the code's refusal
-abbrev pub refusal_in : CodeExpansion → Refusal
-refusal_in Done = refusal 0 0 0
-refusal_in (Refused e) = refusal_of e
-
-abbrev pub expansion_in : Expanded → Expansion
-expansion_in r = record { refusal = refusal_in r.outcome; triple = r.bgr }
+-- what the code gives
+abbrev pub expansion_in : Result Triple RleError → Expansion
+expansion_in (Ok bgr) = giving bgr
+expansion_in (Err e) = refusing (refusal_of e)

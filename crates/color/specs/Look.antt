@@ -1,19 +1,17 @@
 -- Palette look: the lowest index whose entry equals a triple, and nothing exactly if no entry does or the palette is shorter than its
 -- 256 entries.
-use Rattle.std.specs.Prelude.{◌≡◌, List, ℕ, zero, suc, ◌≤◌, ◌<◌, leb, length}
+use Rattle.std.specs.Prelude.{◌≡◌, List, ℕ, zero, suc, ◌≤◌, ◌<◌, leb, length, Option, Some, None}
 use Rattle.base.specs.Picks.{pick}
-use Rattle.color.specs.declared.palette.Look.{Look}
-use Rattle.color.specs.declared.palette.Look.TheVariants.{At, Nothing}
 use Rattle.color.specs.Colors.{Triple, entry, same_triple}
 
 -- the lowest index of the triple among the n entries from index i on
-unfoldable pub lowest_from : List ℕ → Triple → ℕ → ℕ → Look
-lowest_from palette t i zero = Nothing
-lowest_from palette t i (suc n) = pick (same_triple (entry palette i) t) (At i) (lowest_from palette t (suc i) n)
+unfoldable pub lowest_from : List ℕ → Triple → ℕ → ℕ → Option ℕ
+lowest_from palette t i zero = None
+lowest_from palette t i (suc n) = pick (same_triple (entry palette i) t) (Some i) (lowest_from palette t (suc i) n)
 
 -- the definition
-unfoldable pub lowest_index : List ℕ → Triple → Look
-lowest_index palette t = pick (leb 768 (length palette)) (lowest_from palette t 0 256) Nothing
+unfoldable pub lowest_index : List ℕ → Triple → Option ℕ
+lowest_index palette t = pick (leb 768 (length palette)) (lowest_from palette t 0 256) None
 
 -- index i has the triple
 pub record Matches (palette : List ℕ) (t : Triple) (i : ℕ) : Type 0 where
@@ -22,6 +20,6 @@ pub record Matches (palette : List ℕ) (t : Triple) (i : ℕ) : Type 0 where
   pub equal : entry palette i ≡ t
 
 -- what an answer says (proofs/Lowest.antt: of every palette and triple this holds of one answer alone, that of the definition)
-abbrev pub Looked : List ℕ → Triple → Look → Type 0
-Looked palette t (At i) = Matches palette t i × ((k : ℕ) → k < i → Matches palette t k → ⊥)
-Looked palette t Nothing = (i : ℕ) → Matches palette t i → ⊥
+abbrev pub Looked : List ℕ → Triple → Option ℕ → Type 0
+Looked palette t (Some i) = Matches palette t i × ((k : ℕ) → k < i → Matches palette t k → ⊥)
+Looked palette t None = (i : ℕ) → Matches palette t i → ⊥

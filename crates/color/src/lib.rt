@@ -3,11 +3,10 @@
 // What the functions promise is defined in specs/Colors.antt, Look.antt and SamePicture.antt.
 #![tactic(auto)]
 
-pub mod bytes;
 pub mod palette;
 pub mod pixel;
 pub mod same;
 
-pub use palette::{Look, palette_look};
-pub use pixel::{Expanded, Expansion, expand};
+pub use palette::palette_look;
+pub use pixel::expand;
 pub use same::{Shape, same_picture};

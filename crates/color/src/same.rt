@@ -1,14 +1,13 @@
 // Whether two pictures are the same.
-ghost use Rattle.std.specs.Prelude.{◌≡◌};
+ghost use Rattle.std.specs.Prelude.{◌≡◌, ◌≤◌, length};
 ghost use Rattle.color.specs.Colors.{both};
-ghost use Rattle.color.specs.SamePicture.{same_picture, valid, picture_of};
+ghost use Rattle.color.specs.SamePicture.{same_bytes, same_picture, valid, picture_of};
 
-use crate::bytes::same_bytes;
 use crate::palette::palette_fits;
-use picture::PictureSize;
+use picture::{bytes_per_pixel, picture_size};
 
 // A picture's numbers: `pixels` of its pixels are painted. Its bytes stand in a slice beside it.
-#[derive(Clone, Copy)]
+#[derive(Clone, Copy, Debug, PartialEq, Eq)]
 pub struct Shape {
     pub pixels: usize,
     pub width: usize,
@@ -16,36 +15,36 @@ pub struct Shape {
     pub bpp: usize,
 }
 
-// Depth and sizes, space for the whole picture, the pixel count, and the palette where the depth needs one.
-pub(crate) fn is_valid(slice: &[u8], shape: Shape, palette: &[u8]) -> bool
-    ensures { result ≡ valid palette.now (picture_of slice.now shape) }
-{
-    let size = picture::picture_size(shape.width, shape.height, shape.bpp);
-    match size {
-        PictureSize::Refused(_) => false,
-        PictureSize::Bytes(n) => {
-            if slice.len() < n {
-                return false;
+impl Shape {
+    // Depth and sizes, space for the whole picture, the pixel count, and the palette where the depth needs one.
+    #[tactic(auto, unfolding(crate::specs::SamePicture::valid, picture::specs::Sizes::has_space))]
+    fn is_valid(self, bytes: &[u8], palette: &[u8]) -> bool
+        ensures { result ≡ valid palette.now (picture_of bytes.now self) }
+    {
+        match picture_size(self.width, self.height, self.bpp) {
+            Ok(size) => {
+                size <= bytes.len()
+                    && self.pixels <= self.width * self.height
+                    && palette_fits(self.bpp, palette)
             }
-            if shape.width * shape.height < shape.pixels {
-                return false;
-            }
-            palette_fits(shape.bpp, palette)
+            Err(_) => false,
         }
+    }
+
+    // Whether two slices hold valid pictures of this shape. Where the first does, so does a second that is not shorter.
+    fn are_valid(self, a: &[u8], b: &[u8], palette: &[u8]) -> bool
+        ensures { result ≡ both (valid palette.now (picture_of a.now self)) (valid palette.now (picture_of b.now self)) }
+    {
+        self.is_valid(a, palette) && (a.len() <= b.len() || self.is_valid(b, palette))
     }
 }
 
-// Whether two slices with the same numbers are valid pictures. Where the first is, so is a second that is not shorter.
-pub(crate) fn both_valid(a: &[u8], b: &[u8], shape: Shape, palette: &[u8]) -> bool
-    ensures { result ≡ both (valid palette.now (picture_of a.now shape)) (valid palette.now (picture_of b.now shape)) }
+// Whether the first n bytes are the same.
+fn same_bytes(a: &[u8], b: &[u8], n: usize) -> bool
+    requires { (n ≤ length a.now) × (n ≤ length b.now) }
+    ensures { result ≡ same_bytes a.now b.now n }
 {
-    if !is_valid(a, shape, palette) {
-        return false;
-    }
-    if a.len() <= b.len() {
-        return true;
-    }
-    is_valid(b, shape, palette)
+    a[..n] == b[..n]
 }
 
 // Whether two pictures, a with the numbers p and b with q, are valid and the same. Pixels of one depth that are stored in the same bytes
@@ -53,20 +52,8 @@ pub(crate) fn both_valid(a: &[u8], b: &[u8], shape: Shape, palette: &[u8]) -> bo
 pub fn same_picture(a: &[u8], p: Shape, b: &[u8], q: Shape, palette: &[u8]) -> bool
     ensures { result ≡ same_picture palette.now (picture_of a.now p) (picture_of b.now q) }
 {
-    if p.bpp != q.bpp {
+    if p != q {
         return false;
     }
-    if p.width != q.width {
-        return false;
-    }
-    if p.height != q.height {
-        return false;
-    }
-    if p.pixels != q.pixels {
-        return false;
-    }
-    if !both_valid(a, b, p, palette) {
-        return false;
-    }
-    same_bytes(a, b, p.pixels * picture::bytes_per_pixel(p.bpp))
+    p.are_valid(a, b, palette) && same_bytes(a, b, p.pixels * bytes_per_pixel(p.bpp))
 }

@@ -11,7 +11,7 @@ use picture::depth_of;
 
 // The foreground, the place in the stream, whether an insert is pending, the pixels painted, the first-row mark, the orders completed. No
 // two fields of one byte stand side by side: the compiler would pack them into one register and take them apart at every order.
-#[derive(Clone, Copy)]
+#[derive(Clone, Copy, Debug, PartialEq, Eq)]
 pub struct State {
     pub foreground: [u8; 3],
     pub pos: usize,
@@ -21,57 +21,43 @@ pub struct State {
     pub orders: usize,
 }
 
-// The state before the first order, at so many bits per pixel; with a foreground of zeros where the depth table has none.
-pub fn start(bpp: usize) -> State
-    ensures { saved_in result ≡ start_at bpp }
-{
-    let depth = depth_of(bpp);
-    let white = depth.white;
-    State {
-        foreground: white,
-        pos: 0,
-        insert: false,
-        pixels: 0,
-        first_row: true,
-        orders: 0,
+impl State {
+    // The state before the first order, at so many bits per pixel; with a foreground of zeros where the depth table has none.
+    pub fn start(bpp: usize) -> State
+        ensures { saved_in result ≡ start_at bpp }
+    {
+        let white = match depth_of(bpp) {
+            Some(depth) => depth.white,
+            None => [0; 3],
+        };
+        State {
+            foreground: white,
+            pos: 0,
+            insert: false,
+            pixels: 0,
+            first_row: true,
+            orders: 0,
+        }
+    }
+
+    // Whether the state is none to go on from, in a stream of `size` bytes, for a picture of `total` pixels of d bytes in rows of `width`.
+    #[tactic(auto, unfolding(definition::specs::Pauses::bad_state))]
+    pub fn is_bad(self, size: usize, total: usize, width: usize, d: usize) -> bool
+        ensures { result ≡ bad_state size total width d (saved_in self) }
+    {
+        size < self.pos
+            || total < self.pixels
+            || self.pixels < self.orders
+            || (!self.first_row && self.pixels < width)
+            || unused_byte(self.foreground, d)
     }
 }
 
 // Whether one of the bytes that pixels of d bytes do not use is not zero.
-pub(crate) fn unused_byte(p: [u8; 3], d: usize) -> bool
+#[tactic(auto, unfolding(definition::specs::Pauses::unused_byte))]
+fn unused_byte(p: [u8; 3], d: usize) -> bool
     ensures { result ≡ unused_byte d p }
 {
-    if 2 < d {
-        return false;
-    }
-    if 1 < d {
-        return 0 < p[2];
-    }
-    if 0 < p[1] {
-        return true;
-    }
-    0 < p[2]
-}
-
-// Whether the state is none to go on from, in a stream of `size` bytes, for a picture of `total` pixels of d bytes in rows of `width`.
-pub fn is_bad(s: State, size: usize, total: usize, width: usize, d: usize) -> bool
-    ensures { result ≡ bad_state size total width d (saved_in s) }
-{
-    let p = s.foreground;
-    if size < s.pos {
-        return true;
-    }
-    if total < s.pixels {
-        return true;
-    }
-    if s.pixels < s.orders {
-        return true;
-    }
-    if s.first_row {
-        return unused_byte(p, d);
-    }
-    if s.pixels < width {
-        return true;
-    }
-    unused_byte(p, d)
+    let [_, second, third] = p;
+    (d < 2 && second != 0) || (d < 3 && third != 0)
 }

@@ -1,7 +1,6 @@
 pub mod Comparing
 pub mod PixelStretches
 pub mod Starts
-pub mod Places
 pub mod Choosing
 pub mod Written
 pub mod OrderBytes

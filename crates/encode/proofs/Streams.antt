@@ -1,31 +1,34 @@
 -- A stream written order by order: what is written so far, and what is still to come. Assumes nothing.
-use mathlib.Core.Path.{◌≡◌, ap, sym, ◌∙◌}
-use mathlib.Core.List.{List, [], ◌++◌}
-use mathlib.Core.Bool.{Bool}
-use Prim.Native.Nat.{ℕ, ◌+◌, ◌*◌, ◌%◌, ◌≤◌, ◌<◌}
+use mathlib.Core.Path.{◌≡◌, ap, sym, ◌∙◌, subst}
+use mathlib.Core.List.{List, [], ◌++◌, append-nil, append_assoc}
+use mathlib.Core.Bool.{Bool, false}
+use Prim.Native.Nat.{ℕ, ◌+◌, ◌-◌, ◌*◌, ◌%◌, ◌≤◌}
 use native.Mathlib.Nat.{mul-le-mul}
 use native.Mathlib.Omega.{arith}
 use lib.Dec.{eqb}
-use lib.ListN.{length, take, drop, length-append, length-drop}
+use lib.ListN.{length, take, drop, length-append, length-drop, drop_of_length-le}
 use lib.Seq.{take-add, take-length, drop-drop, take_at, drop_at, length-take-le, take-append_seam, drop-append_seam}
+use borrow.Rule.Slice.PartMut.{put_mid}
+use Rattle.std.proofs.lemmas.List.{take_rest}
 use Rattle.byte_runs.specs.Runs.{run_where, both, there, taken}
 use Rattle.base.proofs.Tests.{by_test}
-use Rattle.picture.specs.Pixels.{Pixel}
 use Rattle.picture.proofs.Pixels.{length-pixels_of}
 use Rattle.definition.specs.Codes.{kind_row}
 use Rattle.encoding.specs.Heads.{head_bytes}
-use Rattle.encoding.proofs.HeadLengths.{head-length, head-most}
+use Rattle.encoding.proofs.HeadLengths.{head-most}
 use Rattle.encoding.specs.Encode.{is_bg_run, order_at, order_bytes, encode}
 use Rattle.encoding.specs.Bound.{head_size, overhead}
 use Rattle.encoding.proofs.Bound.{stream-bound}
-use Rattle.encoding.proofs.Rest.{order-counted, rest, rest_more}
+use Rattle.encoding.proofs.Rest.{order-counted, rest, rest_all, rest_more, rest_end}
 use Rattle.encode.specs.declared.order.Order.{Order}
-use Rattle.encode.specs.declared.stretch.Layout.{Layout}
-use Rattle.encode.specs.Layouts.{Fits, pixels_in, stream_in}
-use Rattle.encode.specs.Orders.{order_of, pixels_held, OrderAt, Placed}
+use Rattle.encode.specs.declared.orders.Orders.{Orders}
+use Rattle.encode.specs.declared.pixels.Pixels.{Pixels}
+use Rattle.encode.specs.Pixels.{pixels_in, stream_in}
+use Rattle.encode.specs.Orders.{kind_number, is_background, order_of, pixels_held}
+use Rattle.encode.specs.Stream.{OrdersFrom, OrderTaken}
 use Rattle.encode.specs.Writing.{Writes}
-use Rattle.encode.proofs.OrderBytes.{background-is, order-bytes, order-length, held_inside}
-use Rattle.encode.proofs.Written.{copied_where, length-written, then_written}
+use Rattle.encode.proofs.OrderBytes.{head-bytes, background-is, order-bytes, order-length, held_inside}
+use Rattle.encode.proofs.Written.{then_copied}
 
 -- ---- one order more
 
@@ -33,137 +36,148 @@ pub overhead-few : (D n : ℕ) → overhead D n ≤ n + 4
 unfolding overhead
 overhead-few D n = by_test (λ (x : ℕ). x ≤ n + 4) (eqb D 1) (λ e. omega arith) (λ e. omega (arith, head-most (n % 65535)))
 
-module _ (w : ℕ) (ps : List Pixel) (k : ℕ) (after : Bool) (o : Order) (is : OrderAt w ps k after o) (inside : k < length ps) where
-  -- the rest behind the code's order
-  pub next-rest : (D : ℕ) → rest w ps D k after ≡ order_bytes D (order_of ps k o.kind o.pixels) ++ rest w ps D (k + o.pixels) (eqb o.kind 0)
-  next-rest D =
-      let background : is_bg_run (order_at w ps k after) ≡ eqb o.kind 0 =
-      ap is_bg_run (sym is.is) ∙ sym (background-is ps k o.pixels o.kind is.kind) in
-      rest_more w ps D k after inside
-      ∙ (λ i. order_bytes D (sym is.is i) ++ rest w ps D (k + sym is.count i) (background i))
+-- of the picture's stream, what is still to come from pixel k on
+abbrev pub to_come : Pixels → ℕ → Bool → List ℕ
+to_come p k after = rest p.width (pixels_in p) p.bytes k after
 
-pub placed : (s : List ℕ) (f : Layout) (k : ℕ) (after : Bool) (o : Order) → Fits s f → OrderAt f.width (pixels_in f s) k after o → k < f.total → Placed s f k o
-placed s f k after o fits is inside =
-    let size = length-pixels_of f.bytes f.total s in
-    let c = order-counted f.width (pixels_in f s) k after (rw size inside) in
-    record {
-      fits = fits;
-      kind = is.kind;
-      one = rw is.count c.one;
-      few = rw is.count (omega (arith, c.few));
-      ends = rw is.count (omega (arith, rw size at c.few));
-    }
+abbrev pub rest_of : Orders → List ℕ
+rest_of s = to_come s.pixels.now s.k s.after
 
--- an order's header, and then a copy of the pixels that it holds
-pub order-written : (s : List ℕ) (f : Layout) (k : ℕ) (o : Order) → Placed s f k o → (a b c : List ℕ) (at next held : ℕ)
-    → at + length (order_bytes f.bytes (order_of (pixels_in f s) k o.kind o.pixels)) ≤ length a
-    → Writes (head_bytes (kind_row o.kind) o.pixels) a b at next → held ≡ pixels_held o.kind o.pixels * f.bytes
-    → c ≡ run_where (both (there (k * f.bytes) held s) (there next held b)) (taken s (k * f.bytes)) next held b
-    → Writes (order_bytes f.bytes (order_of (pixels_in f s) k o.kind o.pixels)) a c at (next + held)
-order-written s f k o p a b c at next held fits x e y =
-    let D = f.bytes in
-    let high = p.fits.depth.high in
-    let there = p.fits.there in
-    let long : length (head_bytes (kind_row o.kind) o.pixels) + held ≡ length (order_bytes D (order_of (pixels_in f s) k o.kind o.pixels)) =
-    rw (order-length D f.total s high there k o.pixels p.one p.ends o.kind p.kind, head-length o.kind o.pixels p.kind p.one, e) in
-    let size = length-written (head_bytes (kind_row o.kind) o.pixels) a b at next x (omega arith) in
-    let copy = copied_where s b c (k * D) next held (rw e (held_inside D f.total s high there k o.pixels p.one p.ends o.kind p.kind))
-    (omega (arith, x.next)) y in
-    rw (order-bytes D f.total s high there k o.pixels p.one p.ends o.kind p.kind, ← e)
-    (then_written (head_bytes (kind_row o.kind) o.pixels) (take held (drop (k * D) s)) a b c at next (next + held) x copy (omega arith))
+-- the bytes of an order of the code from pixel k on
+abbrev pub bytes_for : Pixels → ℕ → Order → List ℕ
+bytes_for p k o = order_bytes p.bytes (order_of (pixels_in p) k o.kind o.pixels)
+
+-- what the iterator's step from s to t, which gives the order o at pixel k, says of the stream
+pub record Step (p : Pixels) (s : Orders) (k : ℕ) (o : Order) (t : Orders) : Type 0 where
+  pub ends : k + o.pixels ≤ p.total
+  pub next : rest_of s ≡ bytes_for p k o ++ rest_of t
+  pub over : t.pixels.now ≡ p
+
+pub step : (p : Pixels) (s : Orders) (k : ℕ) (o : Order) (t : Orders) → s.pixels.now ≡ p → OrderTaken s k o t → Step p s k o t
+step p s k o t over x = subst (λ (p : Pixels). Step p s k o t) over (record { ends = ends; next = next; over = x.rest.pixels })
+  where
+    q : Pixels
+    q = s.pixels.now
+
+    size : length (pixels_in q) ≡ q.total
+    size = length-pixels_of q.bytes q.total q.src.now
+
+    ends : k + o.pixels ≤ q.total
+    ends =
+        let c = order-counted q.width (pixels_in q) k s.after (rw size x.inside) in
+        omega (arith, x.inside, x.is.count, rw size at c.few)
+
+    next : rest_of s ≡ bytes_for q k o ++ rest_of t
+    next =
+        let background : is_bg_run (order_at q.width (pixels_in q) k s.after) ≡ is_background o.kind =
+        ap is_bg_run (sym x.is.is) ∙ background-is (pixels_in q) k o.pixels o.kind in
+        let here = rest_more q.width (pixels_in q) q.bytes k s.after (rw size x.inside) in
+        rw (← x.place, x.rest.pixels, x.rest.next, x.rest.background)
+        (here ∙ (λ i. order_bytes q.bytes (sym x.is.is i) ++ to_come q (k + sym x.is.count i) (background i)))
+
+-- no order is left
+pub nothing_left : (s : Orders) → s.pixels.now.total ≤ s.k → rest_of s ≡ []
+nothing_left s h = rest_end s.pixels.now.width (pixels_in s.pixels.now) s.pixels.now.bytes s.k s.after (rw length-pixels_of h)
+
+-- all orders are
+pub all_left : (p : Pixels) (s : Orders) → OrdersFrom p 0 false s → rest_of s ≡ stream_in p
+all_left p s x = rw (x.pixels, x.next, x.background) (rest_all p.width (pixels_in p) p.bytes)
+
+module _ (p : Pixels) (k : ℕ) (o : Order) (ends : k + o.pixels ≤ p.total) where
+  pub length-order : length (bytes_for p k o) ≡ head_size o.pixels + pixels_held o.kind o.pixels * p.bytes
+  length-order = order-length p k o.pixels o.one ends o.kind
+
+  -- an order's header, and then a copy of the pixels that it holds
+  pub order-written : (a b c : List ℕ) (head held : ℕ) → length (bytes_for p k o) ≤ length a
+      → Writes (head_bytes (kind_row (kind_number o.kind)) o.pixels) a b head → held ≡ pixels_held o.kind o.pixels * p.bytes
+      → c ≡ run_where (both (there (k * p.bytes) held p.src.now) (there head held b)) (taken p.src.now (k * p.bytes)) head held b
+      → Writes (bytes_for p k o) a c (head + held)
+  order-written a b c head held fits x e y =
+      rw (order-bytes p k o.pixels o.one ends o.kind, ← e)
+      (then_copied (head_bytes (kind_row (kind_number o.kind)) o.pixels) p.src.now a b c (k * p.bytes) head held x
+      (rw e (held_inside p k o.pixels o.one ends o.kind))
+      (omega (arith, fits, length-order, head-bytes o.kind o.pixels o.one, e)) y)
 
 -- ---- the length so far
 
-module _ (s : List ℕ) (f : Layout) (fits : Fits s f) where
-  pub stream-few : length (stream_in f s) ≤ f.total * f.bytes + overhead f.bytes f.total
+module _ (p : Pixels) where
+  -- a product that fits every number type
+  pub small : (n : ℕ) → n ≤ 67108864 → n * p.bytes ≤ 201326592
+  small n h = mul-le-mul h p.high
+
+  pub stream-few : length (stream_in p) ≤ p.total * p.bytes + overhead p.bytes p.total
   unfolding encode
   stream-few =
-      stream-bound (record { bytes = f.bytes; white = []; black = []; width = f.width; total = f.total }) s fits.depth.low
+      stream-bound (record { bytes = p.bytes; white = []; black = []; width = p.width; total = p.total }) p.src.now p.low
 
-  pub stream_small : length (stream_in f s) ≤ 268435460
-  unfolding overhead
-  stream_small =
-      omega (arith, stream-few, mul-le-mul fits.few fits.depth.high, overhead-few f.bytes f.total, fits.few)
+  pub stream_small : length (stream_in p) ≤ 268435460
+  stream_small = omega (arith, stream-few, small p.total p.few, overhead-few p.bytes p.total, p.few)
 
-  -- h bytes of header and p of pixels are counted for the order o
-  pub counted_more : (k : ℕ) (after : Bool) (o : Order) → OrderAt f.width (pixels_in f s) k after o → k < f.total → (n h p : ℕ)
-      → h ≡ head_size o.pixels → p ≡ pixels_held o.kind o.pixels * f.bytes
-      → n + length (rest f.width (pixels_in f s) f.bytes k after) ≡ length (stream_in f s)
-      → n + (h + p) + length (rest f.width (pixels_in f s) f.bytes (k + o.pixels) (eqb o.kind 0)) ≡ length (stream_in f s)
-  counted_more k after o is inside n h p x y e =
-      let q = placed s f k after o fits is inside in
-      let next = next-rest f.width (pixels_in f s) k after o is (rw length-pixels_of inside) f.bytes in
-      let bytes = order_bytes f.bytes (order_of (pixels_in f s) k o.kind o.pixels) in
-      let long : length bytes ≡ h + p =
-      rw (x, y) (order-length f.bytes f.total s fits.depth.high fits.there k o.pixels q.one q.ends o.kind q.kind) in
-      omega (arith, e, long, ap length next, length-append bytes (rest f.width (pixels_in f s) f.bytes (k + o.pixels) (eqb o.kind 0)))
+  -- h bytes of header and d of pixels are counted for the order o
+  pub counted_more : (s : Orders) (k : ℕ) (o : Order) (t : Orders) → Step p s k o t → (n h d : ℕ) → h ≡ head_size o.pixels
+      → d ≡ pixels_held o.kind o.pixels * p.bytes → n + length (rest_of s) ≡ length (stream_in p)
+      → n + (h + d) + length (rest_of t) ≡ length (stream_in p)
+  counted_more s k o t x n h d y z e =
+      omega (arith, e, length-order p k o x.ends, y, z, ap length x.next, length-append (bytes_for p k o) (rest_of t))
 
 -- ---- the output so far
 
--- of the stream `whole` the first `at` bytes are written, and `to-come` is still to come
-pub record Begun (whole before now to-come : List ℕ) (at : ℕ) : Type 0 where
+-- of the stream `whole` the first `at` bytes are written, and `rest` is still to come
+pub record Begun (whole before now rest : List ℕ) (at : ℕ) : Type 0 where
   pub within : at ≤ length whole
-  pub next : drop at whole ≡ to-come
+  pub next : drop at whole ≡ rest
   pub is : now ≡ take at whole ++ drop at before
 
-module _ (whole before : List ℕ) (fits : length whole ≤ length before) where
-  begun_more : (now later bytes to-come : List ℕ) (at r : ℕ) → Begun whole before now (bytes ++ to-come) at → Writes bytes now later at r
-      → Begun whole before later to-come r
-  begun_more now later bytes to-come at r b x =
-      let front : length (take at whole) ≡ at = length-take-le at whole b.within in
-      let kept : take at now ≡ take at whole = rw b.is (take_at (take at whole) (drop at before) at front) in
-      let behind : drop (at + length bytes) now ≡ drop (at + length bytes) before =
-      sym (drop-drop (length bytes) at now)
-      ∙ ap (λ (l : List ℕ). drop (length bytes) l) (ap (λ (l : List ℕ). drop at l) b.is ∙ drop_at (take at whole) (drop at before) at front)
-      ∙ drop-drop (length bytes) at before in
-      let written : take (at + length bytes) whole ≡ take at whole ++ bytes =
-      take-add at (length bytes) whole ∙ rw b.next (ap (λ (l : List ℕ). take at whole ++ l) (take-append_seam bytes to-come)) in
-      record {
-        within = rw x.next (room b);
-        next = rw x.next (sym (drop-drop (length bytes) at whole) ∙ rw b.next (drop-append_seam bytes to-come));
-        is = x.is ∙ rw (kept, behind, x.next, written);
-      }
-    where
-      room : Begun whole before now (bytes ++ to-come) at → at + length bytes ≤ length whole
-      room b = omega (arith, b.within, length-drop at whole, ap length b.next, length-append bytes to-come)
+-- what of the output is not yet written, as the code borrows it
+abbrev pub left : List ℕ → ℕ → List ℕ
+left now at = take (length now - at) (drop at now)
 
-  pub begun_length : (now to-come : List ℕ) (at : ℕ) → Begun whole before now to-come at → length now ≡ length before
-  begun_length now to-come at b =
+module _ (whole before : List ℕ) (fits : length whole ≤ length before) where
+  pub begun_length : (now rest : List ℕ) (at : ℕ) → Begun whole before now rest at → length now ≡ length before
+  begun_length now rest at b =
       ap length b.is
       ∙ length-append (take at whole) (drop at before)
       ∙ rw (length-take-le at whole b.within, length-drop) (omega (arith, b.within))
 
-  begun_room : (now bytes to-come : List ℕ) (at : ℕ) → Begun whole before now (bytes ++ to-come) at → at + length bytes ≤ length now
-  begun_room now bytes to-come at b =
-      omega (
-        arith,
-        begun_length now (bytes ++ to-come) at b,
-        b.within,
-        length-drop at whole,
-        ap length b.next,
-        length-append bytes to-come,
-      )
-
-  pub begun_all : (now : List ℕ) (at : ℕ) → Begun whole before now [] at → (at ≡ length whole) × (now ≡ whole ++ drop (length whole) before)
+  pub begun_all : (now : List ℕ) (at : ℕ) → Begun whole before now [] at → Writes whole before now at
   begun_all now at b =
       let all : at ≡ length whole = omega (arith, b.within, length-drop at whole, ap length b.next) in
-      (all, b.is ∙ rw all (ap (λ (l : List ℕ). l ++ drop (length whole) before) (take-length whole)))
+      record { next = all; is = b.is ∙ rw all (ap (λ (l : List ℕ). l ++ drop (length whole) before) (take-length whole)) }
 
--- the order o at pixel k, where the rest from there on is still to come
-module _ (s : List ℕ) (f : Layout) (k : ℕ) (after : Bool) (o : Order) (is : OrderAt f.width (pixels_in f s) k after o) (inside : k < f.total)
-    (before now : List ℕ) (at : ℕ) (fits : length (stream_in f s) ≤ length before)
-    (begun : Begun (stream_in f s) before now (rest f.width (pixels_in f s) f.bytes k after) at) where
-  abbrev bytes : List ℕ
-  bytes = order_bytes f.bytes (order_of (pixels_in f s) k o.kind o.pixels)
+  module _ (now bytes rest : List ℕ) (at : ℕ) (b : Begun whole before now (bytes ++ rest) at) where
+    begun_room : at + length bytes ≤ length whole
+    begun_room = omega (arith, b.within, length-drop at whole, ap length b.next, length-append bytes rest)
 
-  abbrev later : List ℕ
-  later = rest f.width (pixels_in f s) f.bytes (k + o.pixels) (eqb o.kind 0)
+    -- what is not yet written has room for more
+    pub begun-left : length bytes ≤ length (left now at)
+    begun-left = rw (take_rest, length-drop) (omega (arith, begun_length now (bytes ++ rest) at b, begun_room))
 
-  begun_here : Begun (stream_in f s) before now (bytes ++ later) at
-  begun_here = rw (next-rest f.width (pixels_in f s) k after o is (rw length-pixels_of inside) f.bytes) at begun
+    pub begun_more : (end : List ℕ) (r : ℕ) → Writes bytes (left now at) end r → Begun whole before (put_mid at (length now - at) now end) rest (at + r)
+    begun_more end r y =
+        let x = rw take_rest at y in
+        let front : length (take at whole) ≡ at = length-take-le at whole b.within in
+        let kept : take at now ≡ take at whole = rw b.is (take_at (take at whole) (drop at before) at front) in
+        let behind : drop (length bytes) (drop at now) ≡ drop (at + length bytes) before =
+        ap (λ (l : List ℕ). drop (length bytes) l) (ap (λ (l : List ℕ). drop at l) b.is ∙ drop_at (take at whole) (drop at before) at front)
+        ∙ drop-drop (length bytes) at before in
+        let end_of : drop (length now - at) (drop at now) ≡ [] = drop_of_length-le (drop at now) (rw length-drop (omega arith)) in
+        let written : take (at + length bytes) whole ≡ take at whole ++ bytes =
+        take-add at (length bytes) whole ∙ rw b.next (ap (λ (l : List ℕ). take at whole ++ l) (take-append_seam bytes rest)) in
+        record {
+          within = rw x.next begun_room;
+          next = rw x.next (sym (drop-drop (length bytes) at whole) ∙ rw b.next (drop-append_seam bytes rest));
+          is = rw (end_of, append-nil, x.next, x.is, kept, behind, written) (sym (append_assoc (take at whole) bytes (drop (at + length bytes) before)));
+        }
 
-  pub order-room : at + length bytes ≤ length now
-  order-room = begun_room (stream_in f s) before fits now bytes later at begun_here
+-- the order o at pixel k, where it and the rest are still to come
+module _ (p : Pixels) (s : Orders) (k : ℕ) (o : Order) (t : Orders) (x : Step p s k o t) (before now : List ℕ) (at : ℕ)
+    (fits : length (stream_in p) ≤ length before) (begun : Begun (stream_in p) before now (rest_of s) at) where
+  begun_here : Begun (stream_in p) before now (bytes_for p k o ++ rest_of t) at
+  begun_here = rw x.next at begun
 
-  pub order_begun : (then : List ℕ) (r : ℕ) → Writes bytes now then at r → Begun (stream_in f s) before then later r
-  order_begun then r x = begun_more (stream_in f s) before fits now then bytes later at r begun_here x
+  pub order-room : length (bytes_for p k o) ≤ length (left now at)
+  order-room = begun-left (stream_in p) before fits now (bytes_for p k o) (rest_of t) at begun_here
+
+  pub order_begun : (end : List ℕ) (r : ℕ) → Writes (bytes_for p k o) (left now at) end r
+      → Begun (stream_in p) before (put_mid at (length now - at) now end) (rest_of t) (at + r)
+  order_begun end r y = begun_more (stream_in p) before fits now (bytes_for p k o) (rest_of t) at begun_here end r y

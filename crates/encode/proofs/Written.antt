@@ -1,72 +1,56 @@
--- Laws of bytes written from a place on: stored one by one, copied, and one after the other. Assumes nothing.
+-- Laws of bytes written to the front of the output: stored one by one, and followed by a copy. Assumes nothing.
 use mathlib.Core.Path.{◌≡◌, refl, ap, sym, ◌∙◌}
-use mathlib.Core.List.{List, [], ◌∷◌, ◌++◌, append_assoc}
+use mathlib.Core.List.{List, [], ◌∷◌, ◌++◌}
 use Prim.Native.Nat.{ℕ, zero, suc, ◌+◌, ◌≤◌}
-use native.Mathlib.Numerals.{add-one, add-two}
 use native.Mathlib.Omega.{arith}
 use lib.ListN.{length, take, drop, set, length-append, length-drop}
-use lib.Seq.{sets-eq, paste, paste-zero, paste-suc, get_or-drop, length-take-le, take_at, drop_at, drop-drop}
+use lib.Seq.{paste, paste-zero, paste-suc, get_or-drop, length-take-le, take-append_seam, drop-append_seam, drop-drop}
 use borrow.Author.Tests.{le-leb}
 use Rattle.byte_runs.specs.Runs.{run, run_where, both, there, taken}
 use Rattle.encode.specs.Writing.{Writes}
 
 -- ---- stored
 
-module _ (bytes l : List ℕ) (at x y z : ℕ) (fits : at + length bytes ≤ length l) where
-  pub one-stored : bytes ≡ x ∷ [] → Writes bytes l (set l at x) at (at + 1)
-  one-stored e =
-      let f : at + 1 ≤ length l = rw e at fits in
-      rw e (record { next = refl; is = sets-eq (x ∷ []) l at f })
+pub one-stored : (bytes l : List ℕ) (x : ℕ) → length bytes ≤ length l → bytes ≡ x ∷ [] → Writes bytes l (set l 0 x) 1
+one-stored bytes [] x fits e = absurd (omega (arith, ap length e))
+one-stored bytes (a ∷ l) x fits e = rw e (record { next = refl; is = refl })
 
-  pub two_stored : bytes ≡ x ∷ y ∷ [] → Writes bytes l (set (set l at x) (at + 1) y) at (at + 2)
-  two_stored e =
-      let f : at + 2 ≤ length l = rw e at fits in
-      rw e (record { next = refl; is = rw add-one (sets-eq (x ∷ y ∷ []) l at f) })
+pub two_stored : (bytes l : List ℕ) (x y : ℕ) → length bytes ≤ length l → bytes ≡ x ∷ y ∷ [] → Writes bytes l (set (set l 0 x) 1 y) 2
+two_stored bytes [] x y fits e = absurd (omega (arith, ap length e))
+two_stored bytes (a ∷ []) x y fits e = absurd (omega (arith, ap length e))
+two_stored bytes (a ∷ b ∷ l) x y fits e = rw e (record { next = refl; is = refl })
 
-  pub three_stored : bytes ≡ x ∷ y ∷ z ∷ [] → Writes bytes l (set (set (set l at x) (at + 1) y) (at + 2) z) at (at + 3)
-  three_stored e =
-      let f : at + 3 ≤ length l = rw e at fits in
-      rw e (record { next = refl; is = rw (add-one, add-two) (sets-eq (x ∷ y ∷ z ∷ []) l at f) })
+pub three_stored : (bytes l : List ℕ) (x y z : ℕ) → length bytes ≤ length l → bytes ≡ x ∷ y ∷ z ∷ []
+    → Writes bytes l (set (set (set l 0 x) 1 y) 2 z) 3
+three_stored bytes [] x y z fits e = absurd (omega (arith, ap length e))
+three_stored bytes (a ∷ []) x y z fits e = absurd (omega (arith, ap length e))
+three_stored bytes (a ∷ b ∷ []) x y z fits e = absurd (omega (arith, ap length e))
+three_stored bytes (a ∷ b ∷ c ∷ l) x y z fits e = rw e (record { next = refl; is = refl })
 
--- ---- copied
+-- writing leaves the length
+pub length-written : (bytes a b : List ℕ) (r : ℕ) → Writes bytes a b r → length bytes ≤ length a → length b ≡ length a
+length-written bytes a b r x fits =
+    ap length x.is ∙ length-append bytes (drop (length bytes) a) ∙ rw length-drop (omega arith)
 
-pub run_pastes : (s l : List ℕ) (from at n : ℕ) → from + n ≤ length s → at + n ≤ length l → run (taken s from) at n l ≡ paste l at (drop from s) n
+-- ---- and copied
+
+run_pastes : (s l : List ℕ) (from at n : ℕ) → from + n ≤ length s → at + n ≤ length l → run (taken s from) at n l ≡ paste l at (drop from s) n
 unfolding run
 run_pastes s l from at zero h b = paste-zero l at (drop from s)
 run_pastes s l from at (suc n) h b =
     rw (run_pastes s l from at n (omega arith) (omega arith), ← get_or-drop from s n 0)
     (paste-suc l at (drop from s) n 0 (omega arith) (rw length-drop (omega arith)))
 
-pub copied : (s l : List ℕ) (from at n : ℕ) → from + n ≤ length s → at + n ≤ length l
-    → Writes (take n (drop from s)) l (run (taken s from) at n l) at (at + n)
-copied s l from at n h b =
-    let e : length (take n (drop from s)) ≡ n = length-take-le n (drop from s) (rw length-drop (omega arith)) in
-    record { next = rw e; is = rw e (run_pastes s l from at n h b) }
-
--- the same of a copy where it has place
-pub copied_where : (s l after : List ℕ) (from at n : ℕ) → from + n ≤ length s → at + n ≤ length l
-    → after ≡ run_where (both (there from n s) (there at n l)) (taken s from) at n l → Writes (take n (drop from s)) l after at (at + n)
-copied_where s l after from at n h b e = rw (e, le-leb (from + n) (length s) h, le-leb (at + n) (length l) b) (copied s l from at n h b)
-
--- ---- one after the other
-
--- writing leaves the length
-pub length-written : (bytes a b : List ℕ) (at r : ℕ) → Writes bytes a b at r → at + length bytes ≤ length a → length b ≡ length a
-length-written bytes a b at r x fits =
-    ap length x.is
-    ∙ length-append (take at a ++ bytes) (drop (at + length bytes) a)
-    ∙ rw (length-append, length-take-le at a (omega arith), length-drop) (omega arith)
-
-pub then_written : (xs ys a b c : List ℕ) (at p r : ℕ) → Writes xs a b at p → Writes ys b c p r → at + length xs ≤ length a
-    → Writes (xs ++ ys) a c at r
-then_written xs ys a b c at p r x y fits =
-    let front : length (take at a ++ xs) ≡ p = length-append (take at a) xs ∙ rw (length-take-le at a (omega arith)) (sym x.next) in
-    let kept : take p b ≡ take at a ++ xs = rw x.is (take_at (take at a ++ xs) (drop (at + length xs) a) p front) in
-    let rest : drop p b ≡ drop (at + length xs) a = rw x.is (drop_at (take at a ++ xs) (drop (at + length xs) a) p front) in
-    let place : at + length (xs ++ ys) ≡ p + length ys = rw length-append (omega (arith, x.next)) in
-    let behind : drop (p + length ys) b ≡ drop (p + length ys) a =
-    sym (drop-drop (length ys) p b) ∙ rw (rest, ← x.next) (drop-drop (length ys) p a) in
-    record {
-      next = y.next ∙ sym place;
-      is = y.is ∙ rw (kept, behind, place, append_assoc (take at a) xs ys);
-    }
+-- xs is written, and n bytes of s from a place on are copied behind it
+pub then_copied : (xs s a b c : List ℕ) (from at n : ℕ) → Writes xs a b at → from + n ≤ length s → length xs + n ≤ length a
+    → c ≡ run_where (both (there from n s) (there at n b)) (taken s from) at n b → Writes (xs ++ take n (drop from s)) a c (at + n)
+then_copied xs s a b c from at n x h fits e =
+    let room : at + n ≤ length b = omega (arith, length-written xs a b at x (omega arith), x.next) in
+    let m : length (take n (drop from s)) ≡ n = length-take-le n (drop from s) (rw length-drop (omega arith)) in
+    let pasted : c ≡ take at b ++ take n (drop from s) ++ drop (at + n) b =
+    rw (e, le-leb (from + n) (length s) h, le-leb (at + n) (length b) room) (run_pastes s b from at n h room) in
+    let long : length (xs ++ take n (drop from s)) ≡ at + n = rw (length-append, m) (omega (arith, x.next)) in
+    let kept : take at b ≡ xs = rw (x.is, x.next) (take-append_seam xs (drop (length xs) a)) in
+    let behind : drop (at + n) b ≡ drop (at + n) a =
+    sym (drop-drop n at b) ∙ rw (x.is, x.next) (ap (λ (l : List ℕ). drop n l) (drop-append_seam xs (drop (length xs) a)) ∙ drop-drop n (length xs) a) in
+    record { next = sym long; is = pasted ∙ rw (kept, behind, long) }

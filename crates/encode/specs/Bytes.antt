@@ -1,16 +1,14 @@
--- Bytes compared with those a distance back.
-use Rattle.std.specs.Prelude.{◌≡◌, List, Bool, ℕ, ◌+◌, ◌-◌, ◌≤◌, eqb, length, get_or}
+-- How far two lists of bytes are the same.
+use Rattle.std.specs.Prelude.{List, Bool, ℕ, ◌==◌, bit_or, bit_xor, length, fold, take_while}
+use Rattle.std.specs.List.{zip, list_all}
 
--- byte i of s is the one `row` places back
-abbrev pub same_back : List ℕ → ℕ → ℕ → Bool
-same_back s row i = eqb (get_or s i 0) (get_or s (i - row) 0)
+-- the differences of all bytes, gathered
+abbrev pub difference : List ℕ → List ℕ → ℕ
+difference a b = fold (λ all (p : ℕ × ℕ). bit_or all (bit_xor p.0 p.1)) 0 (zip a b)
 
--- n bytes from `at` on are there, and those `row` places back
-pub record Inside (s : List ℕ) (at row n : ℕ) : Type 0 where
-  pub ends : at + n ≤ length s
-  pub back : row ≤ at
+abbrev pub same_bytes : List ℕ → List ℕ → Bool
+same_bytes a b = list_all (λ (p : ℕ × ℕ). p.0 == p.1) (zip a b)
 
--- so far a stretch was followed by blocks; by blocks of one byte, to its end
-pub record Reached (whole block r : ℕ) : Type 0 where
-  pub within : r ≤ whole
-  pub all : block ≡ 1 → r ≡ whole
+-- how many bytes are the same at the start
+abbrev pub same_start : List ℕ → List ℕ → ℕ
+same_start a b = length (take_while (λ (p : ℕ × ℕ). p.0 == p.1) (zip a b))

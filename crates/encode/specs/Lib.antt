@@ -1,5 +1,6 @@
 pub mod Bytes
-pub mod Layouts
+pub mod Pixels
 pub mod Orders
+pub mod Stream
 pub mod Writing
 pub mod Promises

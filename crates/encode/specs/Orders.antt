@@ -1,31 +1,34 @@
 -- The code's orders as the definition's.
-use Rattle.std.specs.Prelude.{◌≡◌, List, Bool, ℕ, ◌+◌, ◌≤◌, eqb, take, drop}
-use Rattle.base.specs.Picks.{pick}
+use Rattle.std.specs.Prelude.{◌≡◌, List, Bool, true, false, ℕ, take, drop}
 use Rattle.picture.specs.Pixels.{Pixel}
-use Rattle.encoding.specs.Heads.{EncodedKind}
 use Rattle.encoding.specs.Encode.{pixel, Order, bg_run, color_run, color_image, pixels_in, order_at}
-use Rattle.encode.specs.declared.stretch.Layout.{Layout}
-use Rattle.encode.specs.Layouts.{Fits}
-use Rattle.encode.specs.declared.order.Order.{Order as CodeOrder}
+use Rattle.encode.specs.declared.order.Kind.{Kind}
+use Rattle.encode.specs.declared.order.Kind.TheVariants.{BgRun, ColorRun, ColorImage}
 
--- the order of kind c with n pixels from pixel k on
-unfoldable pub order_of : List Pixel → ℕ → ℕ → ℕ → Order
-order_of ps k c n = pick (eqb c 0) (bg_run n) (pick (eqb c 3) (color_run (pixel ps k) n) (color_image (take n (drop k ps))))
+-- the kind's place in the table of orders
+abbrev pub kind_number : Kind → ℕ
+kind_number BgRun = 0
+kind_number ColorRun = 3
+kind_number ColorImage = 4
+
+abbrev pub is_background : Kind → Bool
+is_background BgRun = true
+is_background ColorRun = false
+is_background ColorImage = false
+
+-- the order of a kind with n pixels from pixel k on
+abbrev pub order_of : List Pixel → ℕ → Kind → ℕ → Order
+order_of ps k BgRun n = bg_run n
+order_of ps k ColorRun n = color_run (pixel ps k) n
+order_of ps k ColorImage n = color_image (take n (drop k ps))
 
 -- how many pixels stand in it
-unfoldable pub pixels_held : ℕ → ℕ → ℕ
-pixels_held c n = pick (eqb c 0) 0 (pick (eqb c 3) 1 n)
+abbrev pub pixels_held : Kind → ℕ → ℕ
+pixels_held BgRun n = 0
+pixels_held ColorRun n = 1
+pixels_held ColorImage n = n
 
--- the code's order is the rule's at pixel k
-pub record OrderAt (w : ℕ) (ps : List Pixel) (k : ℕ) (after : Bool) (r : CodeOrder) : Type 0 where
-  pub kind : EncodedKind r.kind
-  pub is : order_of ps k r.kind r.pixels ≡ order_at w ps k after
-  pub count : r.pixels ≡ pixels_in (order_at w ps k after)
-
--- an order from pixel k on has its pixels in the picture
-pub record Placed (s : List ℕ) (f : Layout) (k : ℕ) (o : CodeOrder) : Type 0 where
-  pub fits : Fits s f
-  pub kind : EncodedKind o.kind
-  pub one : 1 ≤ o.pixels
-  pub few : o.pixels ≤ 65535
-  pub ends : k + o.pixels ≤ f.total
+-- the order of this kind with n pixels is the rule's at pixel k
+pub record OrderAt (w : ℕ) (ps : List Pixel) (k : ℕ) (after : Bool) (kind : Kind) (n : ℕ) : Type 0 where
+  pub is : order_of ps k kind n ≡ order_at w ps k after
+  pub count : n ≡ pixels_in (order_at w ps k after)

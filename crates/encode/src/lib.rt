@@ -6,49 +6,45 @@ ghost use Rattle.encoding.specs.Bound.{bound};
 ghost use Rattle.encode.specs.Promises.{Compresses};
 
 pub(crate) mod bytes;
+pub mod error;
 pub(crate) mod head;
 pub(crate) mod order;
+pub(crate) mod orders;
+pub(crate) mod pixels;
 pub(crate) mod stream;
 pub(crate) mod stretch;
 
+pub use error::CompressError;
 use head::overhead;
-use picture::{PictureSize, RleError, bytes_per_pixel, picture_size};
-use stream::{stream_fits, write_stream};
-use stretch::Layout;
+use picture::{RleError, bytes_per_pixel, picture_size};
+use pixels::Pixels;
 
-// The stream's length, or why there is no stream.
-#[derive(Clone, Copy)]
-pub enum Compressed {
-    Length(usize),
-    Refused(RleError),
-    OutputTooShort,
-}
-
-// Encodes the picture that `src` starts with into the first bytes of `dst`, of which the bytes after the stream stay; where it is refused,
-// all of them.
-pub fn compress(src: &[u8], dst: &mut [u8], width: usize, height: usize, bpp: usize) -> Compressed
+// Encodes the picture that `src` starts with into the first bytes of `dst`, and tells how many. The bytes after the stream stay; where
+// there is none, all of them.
+pub fn compress(
+    src: &[u8],
+    dst: &mut [u8],
+    width: usize,
+    height: usize,
+    bpp: usize,
+) -> Result<usize, CompressError>
     ensures { Compresses src.now bpp width height dst.old dst.new result }
 {
-    let size = picture_size(width, height, bpp);
-    match size {
-        PictureSize::Refused(e) => Compressed::Refused(e),
-        PictureSize::Bytes(needed) => {
-            let given = src.len();
-            if given < needed {
-                return Compressed::Refused(RleError::BufferTooShort { needed, given });
-            }
-            let f = Layout {
-                bytes: bytes_per_pixel(bpp),
-                width,
-                total: width * height,
-            };
-            let fits = stream_fits(src, f, dst.len());
-            if !fits {
-                return Compressed::OutputTooShort;
-            }
-            Compressed::Length(write_stream(src, dst, f))
-        }
+    let needed = picture_size(width, height, bpp)?;
+    let given = src.len();
+    if given < needed {
+        return Err(RleError::BufferTooShort { needed, given }.into());
     }
+    let pixels = Pixels {
+        src,
+        bytes: bytes_per_pixel(bpp),
+        width,
+        total: width * height,
+    };
+    if !pixels.stream_fits(dst.len()) {
+        return Err(CompressError::OutputTooShort);
+    }
+    Ok(pixels.write_stream(dst))
 }
 
 // The most bytes that the stream of a picture of this depth and these sizes has: with so many, `compress` never finds the output too
@@ -56,9 +52,8 @@ pub fn compress(src: &[u8], dst: &mut [u8], width: usize, height: usize, bpp: us
 pub fn compress_bound(width: usize, height: usize, bpp: usize) -> usize
     ensures { result ≡ bound bpp width height }
 {
-    let size = picture_size(width, height, bpp);
-    match size {
-        PictureSize::Refused(_) => 0,
-        PictureSize::Bytes(n) => n + overhead(bytes_per_pixel(bpp), width * height),
+    match picture_size(width, height, bpp) {
+        Ok(n) => n + overhead(bytes_per_pixel(bpp), width * height),
+        Err(_) => 0,
     }
 }

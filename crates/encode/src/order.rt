@@ -1,49 +1,66 @@
 // The order at a pixel, by the rule.
-ghost use Rattle.encode.specs.Layouts.{LaidOut, pixels_in};
-ghost use Rattle.encode.specs.Orders.{OrderAt};
+ghost use Rattle.std.specs.Prelude.{◌≡◌, ◌≤◌};
+ghost use Rattle.encode.specs.Orders.{kind_number};
 
-use crate::stretch::{Layout, above_at, equal_at, image_at};
+use crate::pixels::Pixels;
 
-// Numbers of kinds.
-pub(crate) const BG_RUN: u8 = 0;
+// Every order stops here.
+pub(crate) const MAX_RUN: usize = 65535;
 
-pub(crate) const COLOR_RUN: u8 = 3;
-
-pub(crate) const COLOR_IMAGE: u8 = 4;
-
-#[derive(Clone, Copy)]
-pub(crate) struct Order {
-    pub(crate) kind: u8,
-    pub(crate) pixels: usize,
+// The kinds of orders that are written.
+#[derive(Clone, Copy, PartialEq, Eq)]
+pub(crate) enum Kind {
+    BgRun = 0,
+    ColorRun = 3,
+    ColorImage = 4,
 }
 
-// The order at pixel k, directly after a background run or not.
-pub(crate) fn order_at(src: &[u8], f: Layout, k: usize, after: bool) -> Order
-    requires { LaidOut src.now f k }
-    ensures { OrderAt f.width (pixels_in f src.now) k after result }
-{
-    let equal = equal_at(src, f, k);
-    let above = above_at(src, f, k, after);
-    if 3 <= above {
-        if equal <= above {
+impl Kind {
+    // Its place in the table of orders, which stands in headers.
+    pub(crate) fn number(self) -> u8
+        ensures { result ≡ kind_number self }
+    {
+        self as u8
+    }
+}
+
+// A kind, and how many pixels it paints.
+#[derive(Clone, Copy)]
+pub(crate) struct Order {
+    pub(crate) kind: Kind,
+    pub(crate) pixels: usize,
+    pub(crate) ghost one: { 1 ≤ pixels },
+    pub(crate) ghost few: { pixels ≤ 65535 },
+}
+
+impl Pixels<'_> {
+    ghost use Rattle.std.specs.Prelude.{◌<◌};
+    ghost use Rattle.encode.specs.Pixels.{pixels_in};
+    ghost use Rattle.encode.specs.Orders.{OrderAt};
+
+    // The order at pixel k, directly after a background run or not. Out of line, so that `next` of `Orders` is small and loops take it in.
+    #[inline(never)]
+    pub(crate) fn order_at(&self, k: usize, after: bool) -> Order
+        requires { k < self.now.total }
+        ensures { OrderAt self.now.width (pixels_in self.now) k after result.kind result.pixels }
+    {
+        let equal = self.equal_at(k);
+        let above = self.above_at(k, after);
+        if 3 <= above && equal <= above {
             return Order {
-                kind: BG_RUN,
+                kind: Kind::BgRun,
                 pixels: above,
             };
         }
-        return Order {
-            kind: COLOR_RUN,
-            pixels: equal,
-        };
-    }
-    if 3 <= equal {
-        return Order {
-            kind: COLOR_RUN,
-            pixels: equal,
-        };
-    }
-    Order {
-        kind: COLOR_IMAGE,
-        pixels: image_at(src, f, k),
+        if 3 <= equal {
+            return Order {
+                kind: Kind::ColorRun,
+                pixels: equal,
+            };
+        }
+        Order {
+            kind: Kind::ColorImage,
+            pixels: self.image_at(k),
+        }
     }
 }

@@ -1,103 +1,96 @@
 // Stretches of pixels, and images between them.
-ghost use Rattle.std.specs.Prelude.{◌≡◌, false, ◌-◌, ◌/◌, ◌≤◌, min};
-ghost use Rattle.base.specs.Picks.{pick};
-ghost use Rattle.encoding.specs.Encode.{equal_at, above_at, start_at, is_none, image_at};
-ghost use Rattle.encode.specs.Layouts.{LaidOut, IsDepth, pixels_in};
+use crate::bytes::{same_bytes, same_start};
+use crate::order::MAX_RUN;
+use crate::pixels::Pixels;
 
-use crate::bytes::{same_back, same_few};
+impl Pixels<'_> {
+    ghost use Rattle.std.specs.Prelude.{◌≡◌, false, ◌+◌, ◌-◌, ◌/◌, ◌≤◌, ◌<◌, eqb, min};
+    ghost use Rattle.base.specs.Picks.{pick};
+    ghost use Rattle.encoding.specs.Encode.{stretch, equal_at, above_at, start_at, is_none, image_at};
+    ghost use Rattle.encode.specs.Pixels.{pixels_in, same_as_back};
 
-// Every order stops here.
-const MAX_RUN: usize = 65535;
-
-// Bytes of a pixel, pixels of a row, pixels of the picture.
-#[derive(Clone, Copy)]
-pub(crate) struct Layout {
-    pub(crate) bytes: usize,
-    pub(crate) width: usize,
-    pub(crate) total: usize,
-}
-
-// Whole pixels in n bytes. A division by a literal is no division.
-pub(crate) fn whole_pixels(n: usize, bytes: usize) -> usize
-    requires { IsDepth bytes }
-    ensures { result ≡ n / bytes }
-{
-    if bytes == 1 {
-        return n;
-    }
-    if bytes == 2 {
-        return n / 2;
-    }
-    n / 3
-}
-
-// The most pixels that an order from pixel k on may have.
-pub(crate) fn most(total: usize, k: usize) -> usize
-    requires { k ≤ total }
-    ensures { result ≡ min 65535 (total - k) }
-{
-    if total - k < MAX_RUN {
-        return total - k;
-    }
-    MAX_RUN
-}
-
-// The pixels from k on that equal pixel k: after it, each equals the one before.
-pub(crate) fn equal_at(src: &[u8], f: Layout, k: usize) -> usize
-    requires { LaidOut src.now f k }
-    ensures { result ≡ equal_at (pixels_in f src.now) k }
-{
-    let d = f.bytes;
-    let n = most(f.total, k);
-    1 + whole_pixels(same_back(src, (k + 1) * d, d, (n - 1) * d), d)
-}
-
-// The pixels from k on that equal those above; none directly after a background run.
-pub(crate) fn above_at(src: &[u8], f: Layout, k: usize, after: bool) -> usize
-    requires { LaidOut src.now f k }
-    ensures { result ≡ pick after 0 (above_at f.width (pixels_in f src.now) k) }
-{
-    if after {
-        return 0;
-    }
-    if k < f.width {
-        return 0;
-    }
-    let d = f.bytes;
-    let n = most(f.total, k);
-    whole_pixels(same_back(src, k * d, f.width * d, n * d), d)
-}
-
-// Whether no run starts at pixel k, which does not directly follow a background run.
-pub(crate) fn no_run_at(src: &[u8], f: Layout, k: usize) -> bool
-    requires { LaidOut src.now f k }
-    ensures { result ≡ is_none (start_at f.width (pixels_in f src.now) k false) }
-{
-    if f.total - k < 3 {
-        return true;
-    }
-    let d = f.bytes;
-    if same_few(src, (k + 1) * d, d, 2 * d) {
-        return false;
-    }
-    if k < f.width {
-        return true;
-    }
-    !same_few(src, k * d, f.width * d, 3 * d)
-}
-
-// The pixels of an image from pixel k on.
-pub(crate) fn image_at(src: &[u8], f: Layout, k: usize) -> usize
-    requires { LaidOut src.now f k }
-    ensures { result ≡ image_at f.width (pixels_in f src.now) k }
-{
-    let last = most(f.total, k);
-    let mut n = 1;
-    while n < last {
-        if !no_run_at(src, f, k + n) {
-            return n;
+    // Whole pixels in n bytes. A division by a literal is no division.
+    fn whole_pixels(&self, n: usize) -> usize
+        ensures { result ≡ n / self.now.bytes }
+    {
+        match self.bytes {
+            1 => n,
+            2 => n / 2,
+            _ => n / 3,
         }
-        n += 1;
     }
-    n
+
+    // The most pixels that an order from pixel k on may have.
+    fn most(&self, k: usize) -> usize
+        requires { k ≤ self.now.total }
+        ensures { result ≡ min 65535 (self.now.total - k) }
+    {
+        (self.total - k).min(MAX_RUN)
+    }
+
+    // How many of n pixels from pixel k on are the ones `row` places back.
+    fn stretch_at(&self, k: usize, row: usize, n: usize) -> usize
+        requires { (row ≤ k) × (k + n ≤ self.now.total) }
+        ensures { result ≡ stretch (same_as_back (pixels_in self.now) row) k n }
+    {
+        self.whole_pixels(same_start(self.bytes_of(k, n), self.bytes_of(k - row, n)))
+    }
+
+    // Whether all n are.
+    fn is_stretch(self, k: usize, row: usize, n: usize) -> bool
+        requires { (row ≤ k) × (k + n ≤ self.total) }
+        ensures { result ≡ eqb (stretch (same_as_back (pixels_in self.entry) row) k n) n }
+    {
+        same_bytes(self.bytes_of(k, n), self.bytes_of(k - row, n))
+    }
+
+    // The pixels from k on that equal pixel k: after it, each equals the one before.
+    pub(crate) fn equal_at(&self, k: usize) -> usize
+        requires { k < self.now.total }
+        ensures { result ≡ equal_at (pixels_in self.now) k }
+    {
+        1 + self.stretch_at(k + 1, 1, self.most(k) - 1)
+    }
+
+    // The pixels from k on that equal those above; none directly after a background run.
+    pub(crate) fn above_at(&self, k: usize, after: bool) -> usize
+        requires { k < self.now.total }
+        ensures { result ≡ pick after 0 (above_at self.now.width (pixels_in self.now) k) }
+    {
+        if after || k < self.width {
+            return 0;
+        }
+        self.stretch_at(k, self.width, self.most(k))
+    }
+
+    // Whether no run starts at pixel k, which does not directly follow a background run.
+    fn no_run_at(self, k: usize) -> bool
+        requires { k < self.total }
+        ensures { result ≡ is_none (start_at self.entry.width (pixels_in self.entry) k false) }
+    {
+        if self.total - k < 3 {
+            return true;
+        }
+        if self.is_stretch(k + 1, 1, 2) {
+            return false;
+        }
+        if k < self.width {
+            return true;
+        }
+        !self.is_stretch(k, self.width, 3)
+    }
+
+    // The pixels of an image from pixel k on.
+    pub(crate) fn image_at(self, k: usize) -> usize
+        requires { k < self.total }
+        ensures { result ≡ image_at self.entry.width (pixels_in self.entry) k }
+    {
+        let last = self.most(k);
+        for n in 1..last {
+            if !self.no_run_at(k + n) {
+                return n;
+            }
+        }
+        last
+    }
 }

@@ -9,8 +9,14 @@ use lib.ListN.{length}
 use borrow.Author.Tests.{le-leb, lt-leb, le-ltb, lt-ltb, eq-eqb, ne_eqb}
 use Rattle.definition.specs.Orders.{written, rows, row}
 use Rattle.definition.specs.Codes.{kind_row}
-use Rattle.encoding.specs.Heads.{shortest_in, written_as, head_bytes, EncodedKind}
+use Rattle.encoding.specs.Heads.{shortest_in, written_as, head_bytes}
 use Rattle.encoding.specs.Bound.{head_size}
+
+-- the number of a kind that the encoder writes: 0 background runs, 3 color runs, 4 color images
+pub record EncodedKind (c : ℕ) : Type 0 where
+  pub few : c ≤ 4
+  pub not_1 : c ≡ 1 → ⊥
+  pub not_2 : c ≡ 2 → ⊥
 
 pub background-kind : EncodedKind 0
 background-kind = record { few = lit≤ tt; not_1 = λ e. omega arith; not_2 = λ e. omega arith }

@@ -20,9 +20,9 @@ use Rattle.definition.specs.Decode.{State, start, decode, Result, result_of, of_
 use Rattle.definition.specs.Plan.{complete, end_with}
 use Rattle.definition.specs.Runs.{Continues}
 use Rattle.definition.proofs.Runs.{continues-start, continues_end, continues_on}
-use Rattle.encoding.specs.Heads.{head_bytes, EncodedKind}
+use Rattle.encoding.specs.Heads.{head_bytes}
 use Rattle.encoding.specs.Encode.{Order, bg_run, color_run, color_image, pixels_in, is_bg_run, order_at, orders_from, orders_of, order_bytes, stream_of, encode}
-use Rattle.encoding.proofs.HeadLengths.{background-kind, color-kind, image-kind, by_head, head-length}
+use Rattle.encoding.proofs.HeadLengths.{EncodedKind, background-kind, color-kind, image-kind, by_head, head-length}
 use Rattle.encoding.proofs.Orders.{order_sound}
 use Rattle.encoding.proofs.Trip.{PictureOf, Stands, order_leads}
 

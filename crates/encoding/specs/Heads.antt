@@ -1,6 +1,6 @@
 -- An order's header and run length in bytes, in the shortest form that its kind has (MS-RDPBCGR 2.2.9.1.1.3.1.2.4), by the rows of
 -- kinds that streams are read by.
-use Rattle.std.specs.Prelude.{◌≡◌, List, [], ◌∷◌, false, ℕ, ◌+◌, ◌-◌, ◌*◌, ◌/◌, ◌%◌, ◌≤◌, ltb, leb, eqb}
+use Rattle.std.specs.Prelude.{List, [], ◌∷◌, false, ℕ, ◌+◌, ◌-◌, ◌*◌, ◌/◌, ◌%◌, ltb, leb, eqb}
 use Rattle.base.specs.Picks.{pick}
 use Rattle.definition.specs.Orders.{Lengths, written, fixed, Row, Place, nowhere, in_header, in_byte, in_two_bytes}
 
@@ -20,9 +20,3 @@ written_as from (fixed m) n p = from ∷ []
 
 unfoldable pub head_bytes : Row → ℕ → List ℕ
 head_bytes r n = written_as r.from r.lengths n (shortest_in r.size r.lengths n)
-
--- the number of a kind that the encoder writes: 0 background runs, 3 color runs, 4 color images
-pub record EncodedKind (c : ℕ) : Type 0 where
-  pub few : c ≤ 4
-  pub not_1 : c ≡ 1 → ⊥
-  pub not_2 : c ≡ 2 → ⊥

@@ -1,66 +1,71 @@
-// Pixels of one color, or of two by turns, in a target.
+// Pixels of one color, or of two by turns, in a target: units of some bytes over and over.
 #![tactic(auto)]
 
-ghost use Rattle.std.specs.Prelude.{◌≡◌, [], ◌∷◌, ◌*◌};
-ghost use Rattle.byte_runs.specs.Runs.{run_where, pixels_there, bytes, turn, pair_of};
+ghost use Rattle.std.specs.Prelude.{◌≡◌, ◌+◌, ◌*◌, ◌≤◌, ◌<◌, leb, length};
+ghost use Rattle.byte_runs.specs.Runs.{run, run_where, both, there, above, pixels_there, bytes, turn, pair_of};
 
 use byte_runs::pixels_fit;
+use copy::copy_back;
 
-pub(crate) mod long;
-pub(crate) mod turns;
-
-use long::{pairs2, pairs3, pixels3};
-use turns::{fill1, fill2};
-
-// n pixels of d bytes from dst[at] on, all a, b, c (the first d of them); nothing where d is no depth or they have no place.
-pub fn fill(dst: &mut [u8], d: usize, at: usize, n: usize, a: u8, b: u8, c: u8)
-    ensures { dst.new ≡ run_where (pixels_there d at n dst.old) (bytes (turn (a ∷ b ∷ c ∷ []) d)) at (n * d) dst.old }
+// n units from dst[at] on, stored one by one.
+fn store_units<const N: usize>(dst: &mut [u8], at: usize, n: usize, unit: [u8; N])
+    requires { (0 < N) × (at + n * N ≤ length dst.old) }
+    ensures { dst.new ≡ run (bytes (turn unit.entry N)) at (n * N) dst.old }
 {
-    if dst.len() < at {
+    for i in 0..n {
+        let to = at + i * N;
+        dst[to..to + N].copy_from_slice(&unit);
+    }
+}
+
+// len bytes from dst[at] on, each the one `period` places back. It stays a call: inlined, every order takes 1 to 5 instructions more, for
+// registers.
+#[inline(never)]
+fn repeat(dst: &mut [u8], at: usize, len: usize, period: usize)
+    ensures { dst.new ≡ run_where (both (leb period at) (there at len dst.old)) (above at period) at len dst.old }
+{
+    copy_back(dst, at, len, period);
+}
+
+// n units from dst[at] on: of more than `most` the first are stored, and the others copied from them.
+fn fill_units<const N: usize>(dst: &mut [u8], at: usize, n: usize, unit: [u8; N], most: usize)
+    requires { (0 < N) × (N ≤ 6) × (0 < most) × (at + n * N ≤ length dst.old) }
+    ensures { dst.new ≡ run (bytes (turn unit.entry N)) at (n * N) dst.old }
+{
+    if n <= most {
+        store_units(dst, at, n, unit);
         return;
     }
-    if !pixels_fit(d, n, dst.len() - at) {
+    store_units(dst, at, most, unit);
+    let stored = most * N;
+    repeat(dst, at + stored, (n - most) * N, stored);
+}
+
+// n pixels of d bytes from dst[at] on, each the first d bytes of `pixel`; nothing where d is no depth or they have no place.
+pub fn fill(dst: &mut [u8], d: usize, at: usize, n: usize, pixel: [u8; 3])
+    ensures { dst.new ≡ run_where (pixels_there d at n dst.old) (bytes (turn pixel d)) at (n * d) dst.old }
+{
+    if dst.len() < at || !pixels_fit(d, n, dst.len() - at) {
         return;
     }
-    if d == 1 {
-        fill1(dst, at, n, a);
-        return;
+    let [a, b, _] = pixel;
+    match d {
+        1 => store_units(dst, at, n, [a]),
+        2 => store_units(dst, at, n, [a, b]),
+        _ => fill_units(dst, at, n, pixel, 32),
     }
-    if d == 2 {
-        fill2(dst, at, n, a, b);
-        return;
-    }
-    pixels3(dst, at, n, a, b, c);
 }
 
 // n pairs of pixels of d bytes from dst[at] on, p and q by turns; nothing where d is no depth or they have no place.
-pub fn fill_pairs(
-    dst: &mut [u8],
-    d: usize,
-    at: usize,
-    n: usize,
-    p0: u8,
-    p1: u8,
-    p2: u8,
-    q0: u8,
-    q1: u8,
-    q2: u8,
-)
-    ensures { dst.new ≡ run_where (pixels_there d at (n * 2) dst.old) (bytes (turn (pair_of d (p0 ∷ p1 ∷ p2 ∷ []) (q0 ∷ q1 ∷ q2 ∷ [])) (2 * d))) at (n * 2 * d) dst.old }
+pub fn fill_pairs(dst: &mut [u8], d: usize, at: usize, n: usize, p: [u8; 3], q: [u8; 3])
+    ensures { dst.new ≡ run_where (pixels_there d at (n * 2) dst.old) (bytes (turn (pair_of d p q) (2 * d))) at (n * 2 * d) dst.old }
 {
-    if dst.len() < at {
+    if dst.len() < at || !pixels_fit(d, n, (dst.len() - at) / 2) {
         return;
     }
-    if !pixels_fit(d, n, (dst.len() - at) / 2) {
-        return;
+    match d {
+        1 => store_units(dst, at, n, [p[0], q[0]]),
+        2 => fill_units(dst, at, n, [p[0], p[1], q[0], q[1]], 24),
+        _ => fill_units(dst, at, n, [p[0], p[1], p[2], q[0], q[1], q[2]], 8),
     }
-    if d == 1 {
-        fill2(dst, at, n, p0, q0);
-        return;
-    }
-    if d == 2 {
-        pairs2(dst, at, n, p0, p1, q0, q1);
-        return;
-    }
-    pairs3(dst, at, n, p0, p1, p2, q0, q1, q2);
 }

@@ -1,9 +1,7 @@
 -- The numbers that the exported color functions hand to C, for the answers that the definitions give.
-use Rattle.std.specs.Prelude.{List, [], ◌∷◌, Bool, ℕ, get_or}
+use Rattle.std.specs.Prelude.{List, [], ◌∷◌, Bool, ℕ, get_or, Option, Some, None}
 use Rattle.base.specs.Picks.{pick}
 use Rattle.picture.specs.Sizes.{Refusal}
-use Rattle.color.specs.declared.palette.Look.{Look}
-use Rattle.color.specs.declared.palette.Look.TheVariants.{At, Nothing}
 use Rattle.color.specs.Colors.{Triple, Expansion}
 use Rattle.screen.specs.Rows.{RowPart}
 
@@ -16,9 +14,9 @@ unfolding numbers_of
 expansion_numbers e = numbers_of e.refusal e.triple
 
 -- the index, which is below 256; 256: nothing
-abbrev pub index_number : Look → ℕ
-index_number (At i) = i
-index_number Nothing = 256
+abbrev pub index_number : Option ℕ → ℕ
+index_number (Some i) = i
+index_number None = 256
 
 abbrev pub yes_no : Bool → ℕ
 yes_no t = pick t 1 0

@@ -1,31 +1,33 @@
 // Expansion, palette look, same picture and the row to show, for C. include/nulambiro.h says what a caller needs to know.
 ghost use Rattle.std.specs.Prelude.{◌≡◌, [], ◌∷◌};
-ghost use Rattle.color.specs.Colors.{expanded, refusal_in};
+ghost use Rattle.color.specs.Colors.{expanded, expansion_in};
 ghost use Rattle.color.specs.Look.{lowest_index};
 ghost use Rattle.color.specs.SamePicture.{same_picture, picture};
 ghost use Rattle.screen.specs.Rows.{part_to_show};
-ghost use Rattle.nulambiro.specs.ColorNumbers.{numbers_of, expansion_numbers, index_number, yes_no, part_numbers};
+ghost use Rattle.nulambiro.specs.ColorNumbers.{expansion_numbers, index_number, yes_no, part_numbers};
 
-use color::{Expansion, Look, Shape};
-use picture::Outcome;
+use color::Shape;
+use picture::{Numbers, RleError};
+use screen::Source;
 
-pub(crate) fn expansion_numbers(outcome: Expansion, bgr: [u8; 3]) -> [u64; 8]
-    ensures { result ≡ numbers_of (refusal_in outcome) bgr }
+#[tactic(auto, unfolding(crate::specs::ColorNumbers::numbers_of, crate::specs::ColorNumbers::expansion_numbers))]
+pub(crate) fn expansion_numbers(expansion: Result<[u8; 3], RleError>) -> [u64; 8]
+    ensures { result ≡ expansion_numbers (expansion_in expansion) }
 {
-    let b = bgr[0] as u64;
-    let g = bgr[1] as u64;
-    let r = bgr[2] as u64;
-    match outcome {
-        Expansion::Done => [0, 0, 0, b, g, r, 0, 0],
-        Expansion::Refused(e) => {
-            let n = picture::numbers_of(Outcome::Err(e));
+    match expansion {
+        Ok(bgr) => {
+            let [blue, green, red] = bgr.map(u64::from);
+            [0, 0, 0, blue, green, red, 0, 0]
+        }
+        Err(e) => {
+            let n = Numbers::from(e);
             [
                 n.refusal as u64,
                 n.first as u64,
                 n.second as u64,
-                b,
-                g,
-                r,
+                0,
+                0,
+                0,
                 0,
                 0,
             ]
@@ -45,22 +47,14 @@ pub extern "C" fn nulambiro_expand(
 )
     ensures { report.new ≡ expansion_numbers (expanded palette.now bpp (low ∷ middle ∷ high ∷ [])) }
 {
-    let e = color::expand([low, middle, high], bpp, palette);
-    let outcome = e.outcome;
-    let bgr = e.bgr;
-    let t = expansion_numbers(outcome, bgr);
-    *report = t;
+    *report = expansion_numbers(color::expand([low, middle, high], bpp, palette));
 }
 
 #[unsafe(no_mangle)]
 pub extern "C" fn nulambiro_palette_look(palette: &[u8], blue: u8, green: u8, red: u8) -> usize
     ensures { result ≡ index_number (lowest_index palette.now (blue ∷ green ∷ red ∷ [])) }
 {
-    let look = color::palette_look(palette, [blue, green, red]);
-    match look {
-        Look::At(i) => i,
-        Look::Nothing => 256,
-    }
+    color::palette_look(palette, [blue, green, red]).unwrap_or(256)
 }
 
 #[unsafe(no_mangle)]
@@ -91,14 +85,11 @@ pub extern "C" fn nulambiro_same_picture(
         height: b_height,
         bpp: b_bpp,
     };
-    if color::same_picture(a, p, b, q, palette) {
-        1
-    } else {
-        0
-    }
+    u8::from(color::same_picture(a, p, b, q, palette))
 }
 
 // The row to show, as a place in one of two slices: a slice can't be handed back to C.
+#[tactic(auto, unfolding(crate::specs::ColorNumbers::part_numbers))]
 #[unsafe(no_mangle)]
 pub extern "C" fn nulambiro_row_to_show(
     new: usize,
@@ -113,11 +104,9 @@ pub extern "C" fn nulambiro_row_to_show(
     ensures { report.new ≡ part_numbers (part_to_show new pixels screen bpp width height row) }
 {
     let p = screen::part_to_show(new, pixels, screen, bpp, width, height, row);
-    let start = p.start as u64;
-    let size = p.size as u64;
-    if p.on_screen {
-        *report = [1, start, size, 0, 0, 0, 0, 0];
-    } else {
-        *report = [0, start, size, 0, 0, 0, 0, 0];
-    }
+    let slice = match p.source {
+        Source::New => 0,
+        Source::Screen => 1,
+    };
+    *report = [slice, p.start as u64, p.size as u64, 0, 0, 0, 0, 0];
 }

@@ -5,16 +5,17 @@ ghost use Rattle.encoding.specs.Compress.{compressed, length_of, refusal_of, out
 ghost use Rattle.encode.specs.Promises.{refusal_in, length_in};
 ghost use Rattle.nulambiro.specs.EncoderNumbers.{numbers_of};
 
-use encode::Compressed;
-use picture::Outcome;
+use encode::CompressError;
+use picture::Numbers;
 
-pub(crate) fn answer_numbers(answer: Compressed) -> [u64; 8]
+#[tactic(auto, unfolding(crate::specs::EncoderNumbers::numbers_of))]
+pub(crate) fn answer_numbers(answer: Result<usize, CompressError>) -> [u64; 8]
     ensures { result ≡ numbers_of (refusal_in answer) (length_in answer) }
 {
     match answer {
-        Compressed::Length(n) => [0, 0, 0, 0, n as u64, 0, 0, 0],
-        Compressed::Refused(e) => {
-            let n = picture::numbers_of(Outcome::Err(e));
+        Ok(n) => [0, 0, 0, 0, n as u64, 0, 0, 0],
+        Err(CompressError::Refused(e)) => {
+            let n = Numbers::from(e);
             [
                 0,
                 n.refusal as u64,
@@ -26,7 +27,7 @@ pub(crate) fn answer_numbers(answer: Compressed) -> [u64; 8]
                 0,
             ]
         }
-        Compressed::OutputTooShort => [0, 14, 0, 0, 0, 0, 0, 0],
+        Err(CompressError::OutputTooShort) => [0, 14, 0, 0, 0, 0, 0, 0],
     }
 }
 
@@ -42,9 +43,7 @@ pub extern "C" fn nulambiro_compress(
     ensures dst_after { dst.new ≡ output (compressed (length dst.old) src.now bpp width height) dst.old }
     ensures report_after { report.new ≡ numbers_of (refusal_of (compressed (length dst.old) src.now bpp width height)) (length_of (compressed (length dst.old) src.now bpp width height)) }
 {
-    let r = encode::compress(src, dst, width, height, bpp);
-    let t = answer_numbers(r);
-    *report = t;
+    *report = answer_numbers(encode::compress(src, dst, width, height, bpp));
 }
 
 #[unsafe(no_mangle)]

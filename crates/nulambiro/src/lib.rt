@@ -10,12 +10,13 @@ pub mod colors;
 pub mod encoder;
 pub mod records;
 
+use picture::Numbers;
+
 // A report in numbers.
 pub(crate) fn report_numbers(report: rle::Report) -> [u64; 8]
     ensures { result ≡ numbers (summary_in report) }
 {
-    let o = report.outcome;
-    let n = picture::numbers_of(o);
+    let n = Numbers::from(report.outcome);
     [
         n.format as u64,
         n.refusal as u64,

@@ -5,7 +5,6 @@ ghost use Rattle.definition.specs.Records.{records, nth};
 ghost use Rattle.rle.specs.Records.{place_in, record_in};
 ghost use Rattle.nulambiro.specs.RecordNumbers.{place_number, record_numbers, answer_numbers, walk_of, walk_numbers, MovesOn};
 
-use orders::Recorded;
 use rle::{Found, OrderRecord, Place, Walk};
 
 pub(crate) fn place_number(p: Place) -> u64
@@ -37,13 +36,12 @@ pub extern "C" fn nulambiro_order_record(
 )
     ensures { report.new ≡ answer_numbers (nth (records src.now bpp width height) n) }
 {
-    let x = orders::order_record(src, width, height, bpp, n);
-    match x {
-        Recorded::Order(r) => {
+    match orders::order_record(src, width, height, bpp, n) {
+        Some(r) => {
             let t = record_numbers(r);
             *report = t;
         }
-        Recorded::NoOrder => *report = [0, 0, 0, 0, 0, 0, 0, 0],
+        None => *report = [0; 8],
     }
 }
 
@@ -62,10 +60,7 @@ pub(crate) fn walk_of(bytes: u64, pixels: u64, insert: u64, later_row: u64) -> W
 pub(crate) fn one_if(t: bool) -> u64
     ensures { result ≡ pick t 1 0 }
 {
-    if t {
-        return 1;
-    }
-    0
+    u64::from(t)
 }
 
 pub(crate) fn walk_numbers(w: Walk) -> [u64; 8]
@@ -95,14 +90,13 @@ pub extern "C" fn nulambiro_next_order(
     ensures { MovesOn src.now bpp width height walk.old walk.new report.new }
 {
     let from = walk_of(walk[0], walk[1], walk[2], walk[3]);
-    let x = rle::nth_order(src, width, height, bpp, from, 0);
-    match x {
-        Found::Order(r, w) => {
-            let t = record_numbers(r);
-            let u = walk_numbers(w);
+    match rle::nth_order(src, width, height, bpp, from, 0) {
+        Some(Found { order, walk: next }) => {
+            let t = record_numbers(order);
+            let u = walk_numbers(next);
             *walk = u;
             *report = t;
         }
-        Found::NoOrder => *report = [0, 0, 0, 0, 0, 0, 0, 0],
+        None => *report = [0; 8],
     }
 }

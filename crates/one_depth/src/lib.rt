@@ -1,28 +1,36 @@
-// The functions of rle.rs for one depth each: `decompress` with the bits per pixel filled in.
+// The functions of rle.rs for one depth each: `decompress` with the bits per pixel as a constant.
 #![tactic(auto)]
 
 ghost use Rattle.rle.specs.Report.{Decompresses};
 
-pub fn decompress_24_bpp(src: &[u8], dst: &mut [u8], width: usize, height: usize) -> rle::Report
-    ensures { Decompresses src.now 24 width height dst.old dst.new result }
+// `decompress_bpp::<24>` stands for `decompress_24_bpp` of rle.rs, and so for 16, 15 and 8. At other depths it refuses.
+pub fn decompress_bpp<const BPP: usize>(
+    src: &[u8],
+    dst: &mut [u8],
+    width: usize,
+    height: usize,
+) -> rle::Report
+    ensures { Decompresses src.now BPP width height dst.old dst.new result }
 {
-    rle::decompress(src, dst, width, height, 24)
+    rle::decompress(src, dst, width, height, BPP)
 }
 
-pub fn decompress_16_bpp(src: &[u8], dst: &mut [u8], width: usize, height: usize) -> rle::Report
-    ensures { Decompresses src.now 16 width height dst.old dst.new result }
-{
-    rle::decompress(src, dst, width, height, 16)
-}
+#[cfg(test)]
+mod tests {
+    use super::*;
 
-pub fn decompress_15_bpp(src: &[u8], dst: &mut [u8], width: usize, height: usize) -> rle::Report
-    ensures { Decompresses src.now 15 width height dst.old dst.new result }
-{
-    rle::decompress(src, dst, width, height, 15)
-}
+    // A stream of one order, a white pixel.
+    fn white<const BPP: usize>() -> [u8; 3] {
+        let mut target = [0; 3];
+        let _report = decompress_bpp::<BPP>(&[0xFD], &mut target, 1, 1);
+        target
+    }
 
-pub fn decompress_8_bpp(src: &[u8], dst: &mut [u8], width: usize, height: usize) -> rle::Report
-    ensures { Decompresses src.now 8 width height dst.old dst.new result }
-{
-    rle::decompress(src, dst, width, height, 8)
+    #[test]
+    fn white_of_each_depth(rt: HostRuntime) {
+        assert_eq!(rt; white::<24>(), [0xFF, 0xFF, 0xFF]);
+        assert_eq!(rt; white::<16>(), [0xFF, 0xFF, 0]);
+        assert_eq!(rt; white::<15>(), [0xFF, 0x7F, 0]);
+        assert_eq!(rt; white::<8>(), [0xFF, 0, 0]);
+    }
 }

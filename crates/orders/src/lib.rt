@@ -7,36 +7,26 @@ ghost use Rattle.rle.specs.Report.{Decompresses};
 ghost use Rattle.rle.specs.Guarantees.{HasSpace};
 ghost use Rattle.orders.specs.Promises.{recorded_in, CountsOrders};
 
-use rle::{Found, OrderRecord, Walk};
+use rle::{OrderRecord, Walk};
 
-// The record of an order, or that there is no such order.
-#[derive(Clone, Copy)]
-pub enum Recorded {
-    Order(OrderRecord),
-    NoOrder,
-}
-
-#[derive(Clone, Copy)]
+#[derive(Clone, Copy, Debug, PartialEq, Eq)]
 pub struct Decoded {
     pub report: rle::Report,
-    pub recorded: Recorded,
+    pub recorded: Option<OrderRecord>,
 }
 
-// The record of order n, counted from 0, of those that `decompress` completes.
-pub fn order_record(src: &[u8], width: usize, height: usize, bpp: usize, n: usize) -> Recorded
+// The record of order n, counted from 0, of those that `decompress` completes; none where fewer are completed.
+pub fn order_record(
+    src: &[u8],
+    width: usize,
+    height: usize,
+    bpp: usize,
+    n: usize,
+) -> Option<OrderRecord>
     ensures { recorded_in result ≡ nth (records src.now bpp width height) n }
 {
-    let start = Walk {
-        pos: 0,
-        pixels: 0,
-        insert: false,
-        first_row: true,
-    };
-    let f = rle::nth_order(src, width, height, bpp, start, n);
-    match f {
-        Found::Order(r, _) => Recorded::Order(r),
-        Found::NoOrder => Recorded::NoOrder,
-    }
+    let found = rle::nth_order(src, width, height, bpp, Walk::start(), n)?;
+    Some(found.order)
 }
 
 // Decodes the stream, and looks at its order n: there is one exactly if more than n are completed.

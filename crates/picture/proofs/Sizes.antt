@@ -7,47 +7,42 @@ use native.Mathlib.Omega.{arith}
 use lib.Dec.{ltb, leb, eqb}
 use borrow.Author.Tests.{leb-false, eqb-false, ltb-false, le-leb, lt-leb, lt-ltb, le-ltb, eq-eqb, ne_eqb}
 use Rattle.base.proofs.Tests.{apart}
-use Rattle.picture.specs.declared.PictureSize.{PictureSize}
+use Rattle.std.specs.Prelude.{Result, ◌⊎◌}
+use Rattle.std.proofs.Common.{inl, inr}
+use Rattle.picture.specs.declared.outcome.RleError.{RleError}
 use Rattle.picture.specs.Sizes.{Refusal, refusal, depth_index, depth_of, Checked, refused, accepted, accept, checked, Size, bytes, size_of}
 use Rattle.picture.specs.Outcomes.{size_in}
 use Rattle.picture.proofs.Depths.{depth_good}
 
 -- the tests of `picture_size`, one after the other
-module _ (bpp w h i : ℕ) (is : i ≡ depth_index bpp) where
-  pub size-bpp : 4 ≤ i → refused (refusal 1 bpp 0) ≡ size_of (checked bpp w h)
+module _ (bpp w h : ℕ) where
+  pub size-bpp : (depth_index bpp < 4 → ⊥) → refused (refusal 1 bpp 0) ≡ size_of (checked bpp w h)
   unfolding checked size_of
-  size-bpp a = rw (← is, le-leb 4 i a)
+  size-bpp a = rw (le-leb 4 (depth_index bpp) (omega arith))
 
-  module _ (a : i < 4) where
-    pub size-width : w ≡ 0 → refused (refusal 2 0 0) ≡ size_of (checked bpp w h)
+  module _ (known : depth_index bpp < 4) where
+    pub size-empty : (w ≡ 0) ⊎ ((w ≡ 0 → ⊥) × (h ≡ 0)) → refused (refusal 2 0 0) ≡ size_of (checked bpp w h)
     unfolding checked size_of
-    size-width b = rw (← is, lt-leb 4 i a, eq-eqb w 0 b)
+    size-empty (inl a) = rw (lt-leb 4 (depth_index bpp) known, eq-eqb w 0 a)
+    size-empty (inr a) = rw (lt-leb 4 (depth_index bpp) known, ne_eqb w 0 a.0, eq-eqb h 0 a.1)
 
-    module _ (b : w ≡ 0 → ⊥) where
-      pub size-height : h ≡ 0 → refused (refusal 2 0 0) ≡ size_of (checked bpp w h)
+    module _ (wide : w ≡ 0 → ⊥) (high : h ≡ 0 → ⊥) where
+      pub size-large : (8192 < w) ⊎ ((w ≤ 8192) × (8192 < h)) → refused (refusal 3 w h) ≡ size_of (checked bpp w h)
       unfolding checked size_of
-      size-height c = rw (← is, lt-leb 4 i a, ne_eqb w 0 b, eq-eqb h 0 c)
+      size-large (inl a) = rw (lt-leb 4 (depth_index bpp) known, ne_eqb w 0 wide, ne_eqb h 0 high, lt-ltb 8192 w a)
+      size-large (inr a) =
+          rw (lt-leb 4 (depth_index bpp) known, ne_eqb w 0 wide, ne_eqb h 0 high, le-ltb 8192 w a.0, lt-ltb 8192 h a.1)
 
-      module _ (c : h ≡ 0 → ⊥) where
-        pub size-wide : 8192 < w → refused (refusal 3 w h) ≡ size_of (checked bpp w h)
-        unfolding checked size_of
-        size-wide d = rw (← is, lt-leb 4 i a, ne_eqb w 0 b, ne_eqb h 0 c, lt-ltb 8192 w d)
-
-        module _ (d : w ≤ 8192) where
-          pub size-high : 8192 < h → refused (refusal 3 w h) ≡ size_of (checked bpp w h)
-          unfolding checked size_of
-          size-high e = rw (← is, lt-leb 4 i a, ne_eqb w 0 b, ne_eqb h 0 c, le-ltb 8192 w d, lt-ltb 8192 h e)
-
-          pub size_fits : h ≤ 8192 → (D : ℕ) → D ≡ (depth_of bpp).bytes → bytes (w * h * D) ≡ size_of (checked bpp w h)
-          unfolding checked size_of accept
-          size_fits e D p = rw (← is, lt-leb 4 i a, ne_eqb w 0 b, ne_eqb h 0 c, le-ltb 8192 w d, le-ltb 8192 h e, p)
+      pub size_fits : w ≤ 8192 → h ≤ 8192 → (D : ℕ) → D ≡ (depth_of bpp).bytes → bytes (w * h * D) ≡ size_of (checked bpp w h)
+      unfolding checked size_of accept
+      size_fits d e D p = rw (lt-leb 4 (depth_index bpp) known, ne_eqb w 0 wide, ne_eqb h 0 high, le-ltb 8192 w d, le-ltb 8192 h e, p)
 
 not_refused : {A : Type 0} (n : ℕ) (r : Refusal) → bytes n ≡ refused r → A
 not_refused n r e = apart cc
 
 -- what was matched of a size
-pub matched : {s t : PictureSize} {x : Size} → s ≡ t → size_in s ≡ x → size_in t ≡ x
-matched e p = ap (λ (y : PictureSize). size_in y) (sym e) ∙ p
+pub matched : {s t : Result ℕ RleError} {x : Size} → s ≡ t → size_in s ≡ x → size_in t ≡ x
+matched e p = ap (λ (y : Result ℕ RleError). size_in y) (sym e) ∙ p
 
 -- what a size says of depth, width and height
 pub record Sized (bpp w h n : ℕ) : Type 0 where

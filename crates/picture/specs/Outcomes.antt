@@ -1,14 +1,10 @@
 -- The numbers and values that the code's outcomes stand for.
-use Rattle.std.specs.Prelude.{◌≡◌, ℕ}
+use Rattle.std.specs.Prelude.{◌≡◌, ℕ, Result, Ok, Err}
 use Rattle.picture.specs.declared.outcome.RlePixelFormat.{RlePixelFormat}
 use Rattle.picture.specs.declared.outcome.RlePixelFormat.TheVariants.{Rgb24, Rgb16, Rgb15, Rgb8}
 use Rattle.picture.specs.declared.outcome.RleError.{RleError}
 use Rattle.picture.specs.declared.outcome.RleError.TheVariants.{InvalidBpp, EmptyImage, DimensionsTooLarge, BufferTooShort, BadOrderCode, NotEnoughBytes, InvalidImageSize, UnexpectedZeroLength}
-use Rattle.picture.specs.declared.outcome.Outcome.{Outcome}
-use Rattle.picture.specs.declared.outcome.Outcome.TheVariants.{Ok, Err}
 use Rattle.picture.specs.declared.outcome.Numbers.{Numbers}
-use Rattle.picture.specs.declared.PictureSize.{PictureSize}
-use Rattle.picture.specs.declared.PictureSize.TheVariants.{Bytes, Refused}
 use Rattle.picture.specs.declared.depth.Depth.{Depth as CodeDepth}
 use Rattle.picture.specs.Sizes.{Refusal, refusal, Depth, Size, bytes, refused}
 
@@ -30,6 +26,9 @@ format_of Rgb15 = 15
 format_of Rgb16 = 16
 format_of Rgb24 = 24
 
+abbrev pub Outcome : Type 0
+Outcome = Result RlePixelFormat RleError
+
 -- number 0: no refusal
 abbrev pub refusal_in : Outcome → Refusal
 refusal_in (Ok k) = refusal 0 0 0
@@ -48,8 +47,8 @@ pub record Numbered (o : Outcome) (r : Numbers) : Type 0 where
   pub second : r.second ≡ (refusal_in o).second
 
 abbrev pub depth_in : CodeDepth → Depth
-depth_in d = record { bytes = d.bytes; white = d.white; black = d.black; format = d.format }
+depth_in d = record { bytes = d.bytes; white = d.white; black = d.black; format = format_of d.format }
 
-abbrev pub size_in : PictureSize → Size
-size_in (Bytes n) = bytes n
-size_in (Refused e) = refused (refusal_of e)
+abbrev pub size_in : Result ℕ RleError → Size
+size_in (Ok n) = bytes n
+size_in (Err e) = refused (refusal_of e)

@@ -1,16 +1,16 @@
 -- What the functions promise, put together: one text after the other is both, a turn of the loop is one byte more. Assumes nothing.
 use mathlib.Core.Path.{◌≡◌, refl, ◌∙◌, ap, sym, subst}
 use mathlib.Core.List.{List, [], ◌∷◌, ◌++◌}
-use mathlib.Core.Bool.{Bool, true, false}
-use Prim.Native.Nat.{ℕ, suc, ◌+◌, ◌<◌, ◌≤◌, min}
+use Prim.Native.Nat.{ℕ, suc, ◌+◌, ◌/◌, ◌%◌, ◌<◌, ◌≤◌, min}
 use native.Mathlib.Nat.{zero-add, add-zero, add-suc, suc-add}
 use native.Mathlib.Numerals.{add-one}
 use native.Mathlib.Omega.{arith}
 use lib.ListN.{length, get_or, take, drop, set, length-append}
 use lib.Seq.{sets, sets-eq, take-suc, set_out, length-sets}
 use Rattle.print.specs.Text.{line}
-use Rattle.print.specs.Digits.{hex_pairs, each_of}
-use Rattle.print.specs.Writes.{Writes, largest}
+use Rattle.print.specs.Digits.{hex_digit, hex_pairs}
+use Rattle.print.specs.Writes.{Writes, Prints, largest}
+use Rattle.print.specs.declared.Output.{Output}
 use Rattle.print.proofs.Printed.{pairs_append}
 use Rattle.base.proofs.Tests.{by_less}
 
@@ -46,29 +46,34 @@ writes_append {a} {b} {c} {s} {t} {at} {k} {r} v w =
 pub writes_as : {a b s t : List ℕ} {at r : ℕ} → s ≡ t → Writes a at s b r → Writes a at t b r
 writes_as {a} {b} {s} {t} {at} {r} e w = subst (λ (l : List ℕ). Writes a at l b r) e w
 
-pub line-written : {a b c d key value : List ℕ} {at k l r : ℕ} → Writes a at key b k → Writes b k value c l → Writes c l (10 ∷ []) d r
-    → Writes a at (line key value) d r
+-- ---- a text printed
+
+pub prints_none : (o : Output) → length o.buffer.now ≤ largest → o.place ≤ largest → Prints o [] o
+prints_none o h k = record { writes = writes_none _ _ h k; same_buffer = refl }
+
+pub prints_append : {a b c : Output} {s t : List ℕ} → Prints a s b → Prints b t c → Prints a (s ++ t) c
+prints_append v w = record { writes = writes_append v.writes w.writes; same_buffer = w.same_buffer ∙ v.same_buffer }
+
+pub prints_as : {a b : Output} {s t : List ℕ} → s ≡ t → Prints a s b → Prints a t b
+prints_as {a} {b} e w = subst (λ (l : List ℕ). Prints a l b) e w
+
+pub prints_line : {a b c d : Output} {key value : List ℕ} → Prints a key b → Prints b value c → Prints c (10 ∷ []) d
+    → Prints a (line key value) d
 unfolding line
-line-written u v w = writes_append (writes_append u v) w
+prints_line u v w = prints_append (prints_append u v) w
 
--- a byte past the end
-pub byte_past : (l : List ℕ) (at b r : ℕ) → length l ≤ largest → length l ≤ at → r ≡ min (at + 1) largest → Writes l at (b ∷ []) l r
-byte_past l at b r size h e = record { place = e; written = sym (set_out l at b h); size = size }
+-- a turn of the loop: one byte more
+pub prints_more : {a b c : Output} (xs : List ℕ) (i : ℕ) → i < length xs → Prints a (take i xs) b → Prints b (get_or xs i 0 ∷ []) c
+    → Prints a (take (i + 1) xs) c
+prints_more xs i h v w = prints_as (sym (rw (add-one) (take-suc xs i 0 h))) (prints_append v w)
 
--- a turn of the loop
-each_append : (hex : Bool) (xs ys : List ℕ) → each_of hex (xs ++ ys) ≡ each_of hex xs ++ each_of hex ys
-each_append true xs ys = pairs_append xs ys
-each_append false xs ys = refl
-
-pub each_none : (hex : Bool) → each_of hex [] ≡ []
+-- the two digits of one byte more
+pub pairs_more : {a b c d : Output} (xs : List ℕ) (i : ℕ) → i < length xs → Prints a (hex_pairs (take i xs)) b
+    → Prints b (hex_digit (get_or xs i 0 / 16) ∷ []) c → Prints c (hex_digit (get_or xs i 0 % 16) ∷ []) d
+    → Prints a (hex_pairs (take (i + 1) xs)) d
 unfolding hex_pairs
-each_none true = refl
-each_none false = refl
-
-pub each_more : {l m out : List ℕ} {at k r : ℕ} (hex : Bool) (xs : List ℕ) (i : ℕ) → i < length xs → Writes l at (each_of hex (take i xs)) m k
-    → Writes m k (each_of hex (get_or xs i 0 ∷ [])) out r → Writes l at (each_of hex (take (i + 1) xs)) out r
-each_more hex xs i h v w =
-    writes_as (sym (rw (add-one, take-suc xs i 0 h) (each_append hex (take i xs) (get_or xs i 0 ∷ [])))) (writes_append v w)
+pairs_more xs i h u v w =
+    prints_as (sym (rw (add-one, take-suc xs i 0 h) (pairs_append (take i xs) (get_or xs i 0 ∷ [])))) (prints_append u (prints_append v w))
 
 -- nothing before the text, and what the output held after it
 pub from_start : {l text out : List ℕ} {r : ℕ} → Writes l 0 text out r → length text ≤ length l → out ≡ text ++ drop (length text) l

@@ -1,5 +1,5 @@
 -- Numbers in decimal and bytes in hexadecimal, as ASCII.
-use Rattle.std.specs.Prelude.{List, [], ◌∷◌, ◌++◌, Bool, ℕ, zero, suc, ◌+◌, ◌/◌, ◌%◌, ltb}
+use Rattle.std.specs.Prelude.{List, [], ◌∷◌, ◌++◌, ℕ, zero, suc, ◌+◌, ◌/◌, ◌%◌, ltb}
 use Rattle.base.specs.Picks.{pick}
 
 -- the ASCII code of a hexadecimal digit, in lower case
@@ -19,7 +19,3 @@ decimal n = decimal_in 20 n
 unfoldable pub hex_pairs : List ℕ → List ℕ
 hex_pairs [] = []
 hex_pairs (x ∷ xs) = hex_digit (x / 16) ∷ hex_digit (x % 16) ∷ hex_pairs xs
-
--- bytes in hexadecimal, or as they are
-abbrev pub each_of : Bool → List ℕ → List ℕ
-each_of hex xs = pick hex (hex_pairs xs) xs

@@ -1,90 +1,86 @@
-// Printing into lent output. Each function writes its text from place `at` on and answers the place after it. It stores only inside
-// the output and counts on past its end, so a run into a short array gives the text's length. A place can't wrap: the next after the
-// largest is the largest.
+// Printing into a lent buffer. Each method of `Output` prints its text from the place on, and moves the place past it. It stores only
+// inside the buffer and counts on past its end, so a run into a short buffer gives the text's length. A place can't wrap: the next
+// after the largest is the largest.
 //
-// What is printed is defined in specs/Text.antt and specs/Digits.antt, what each function promises in specs/Writes.antt.
+// What is printed is defined in specs/Text.antt and specs/Digits.antt, what each method promises in specs/Writes.antt. `write!` would
+// be no plainer: its digits are those of std's definition, and a reader would have that to believe too.
 #![tactic(auto)]
 
 ghost use Rattle.std.specs.Prelude.{◌≡◌, [], ◌∷◌, ◌<◌};
 ghost use Rattle.print.specs.Text.{line};
-ghost use Rattle.print.specs.Digits.{hex_digit, decimal, hex_pairs, each_of};
-ghost use Rattle.print.specs.Writes.{Writes};
+ghost use Rattle.print.specs.Digits.{hex_digit, decimal, hex_pairs};
+ghost use Rattle.print.specs.Writes.{Prints};
 
-#[tactic(auto, using(crate::proofs::Writing::byte_past))]
-pub fn put_byte(b: u8, out: &mut [u8], at: usize) -> usize
-    ensures { Writes out.old at (b ∷ []) out.new result }
-{
-    if at < out.len() {
-        out[at] = b;
-        return at + 1;
-    }
-    if at == usize::MAX {
-        return at;
-    }
-    at + 1
+// A lent buffer, and the place of the next byte.
+#[derive(Drop)]
+pub struct Output<'a> {
+    pub buffer: &'a mut [u8],
+    pub place: usize,
 }
 
+#[tactic(auto, unfolding(crate::specs::Digits::hex_digit))]
 fn hex_digit(d: u8) -> u8
     requires { d < 16 }
     ensures { result ≡ hex_digit d }
 {
-    if d < 10 { 48 + d } else { 87 + d }
+    if d < 10 { b'0' + d } else { b'a' - 10 + d }
 }
 
-// One byte as it is, or its two hexadecimal digits.
-fn put_one(b: u8, hex: bool, out: &mut [u8], at: usize) -> usize
-    ensures { Writes out.old at (each_of hex (b ∷ [])) out.new result }
-{
-    if hex {
-        let next = put_byte(hex_digit(b / 16), out, at);
-        return put_byte(hex_digit(b % 16), out, next);
+impl<'a> Output<'a> {
+    // From the buffer's first byte on.
+    pub fn new(buffer: &'a mut [u8]) -> Output<'a>
+        ensures same_buffer { result.buffer.ghost_name ≡ buffer.entry.ghost_name }
+        ensures held { result.buffer.now ≡ buffer.old }
+        ensures place { result.place ≡ 0 }
+    {
+        Output { buffer, place: 0 }
     }
-    put_byte(b, out, at)
-}
 
-// One loop serves both ways to print bytes.
-fn put_each(bytes: &[u8], hex: bool, out: &mut [u8], at: usize) -> usize
-    ensures { Writes out.old at (each_of hex bytes.now) out.new result }
-{
-    let mut next = at;
-    let mut i = 0;
-    while i < bytes.len() {
-        next = put_one(bytes[i], hex, out, next);
-        i += 1;
+    pub fn byte(&mut self, b: u8)
+        ensures { Prints self.old (b ∷ []) self.new }
+    {
+        if self.place < self.buffer.len() {
+            self.buffer[self.place] = b;
+        }
+        if self.place < usize::MAX {
+            self.place += 1;
+        }
     }
-    next
-}
 
-pub fn put_bytes(bytes: &[u8], out: &mut [u8], at: usize) -> usize
-    ensures { Writes out.old at bytes.now out.new result }
-{
-    put_each(bytes, false, out, at)
-}
-
-// The bytes in hexadecimal.
-pub fn put_pairs(bytes: &[u8], out: &mut [u8], at: usize) -> usize
-    ensures { Writes out.old at (hex_pairs bytes.now) out.new result }
-{
-    put_each(bytes, true, out, at)
-}
-
-// The digits of n / 10, and then the last one.
-#[tactic(auto, using(crate::proofs::Printed::decimal_small))]
-pub fn put_decimal(n: usize, out: &mut [u8], at: usize) -> usize
-    ensures { Writes out.old at (decimal n) out.new result }
-{
-    if n < 10 {
-        return put_byte((48 + n) as u8, out, at);
+    pub fn bytes(&mut self, text: &[u8])
+        ensures { Prints self.old text.now self.new }
+    {
+        for &b in text {
+            self.byte(b);
+        }
     }
-    let next = put_decimal(n / 10, out, at);
-    put_byte((48 + n % 10) as u8, out, next)
-}
 
-// A line with a key and a number.
-pub fn put_number(key: &[u8], n: usize, out: &mut [u8], at: usize) -> usize
-    ensures { Writes out.old at (line key.now (decimal n)) out.new result }
-{
-    let after_key = put_bytes(key, out, at);
-    let after_number = put_decimal(n, out, after_key);
-    put_byte(b'\n', out, after_number)
+    // The bytes in hexadecimal.
+    pub fn pairs(&mut self, bytes: &[u8])
+        ensures { Prints self.old (hex_pairs bytes.now) self.new }
+    {
+        for &b in bytes {
+            self.byte(hex_digit(b / 16));
+            self.byte(hex_digit(b % 16));
+        }
+    }
+
+    // The digits of n / 10, and then the last one.
+    pub fn decimal(&mut self, n: usize)
+        ensures { Prints self.old (decimal n) self.new }
+    {
+        if 10 <= n {
+            self.decimal(n / 10);
+        }
+        self.byte(b'0' + (n % 10) as u8);
+    }
+
+    // A line with a key and a number.
+    pub fn number(&mut self, key: &[u8], n: usize)
+        ensures { Prints self.old (line key.now (decimal n)) self.new }
+    {
+        self.bytes(key);
+        self.decimal(n);
+        self.byte(b'\n');
+    }
 }

@@ -6,204 +6,167 @@
 // length and the stream. Each number is four bytes, low byte first.
 #![tactic(auto)]
 
-ghost use Rattle.std.specs.Prelude.{◌<◌, ◌≤◌, length, take, IfOk};
-ghost use Rattle.std.specs.Io.{ReadsAtMost};
-ghost use Rattle.std.specs.Io.KnownBytes.{Consumes, IsAtEnd};
+ghost use Rattle.std.specs.Prelude.{◌≡◌, ◌+◌, ◌^◌, ◌<◌, ◌≤◌, length, OnSome, IfSome};
 
-use base::widen;
+use picture::Numbers;
+use std::alloc::{AllocError, Global};
 use std::fs::File;
 use std::io::{self, Read};
 
-#[derive(Clone, Copy)]
+#[derive(Clone, Copy, Debug)]
 struct Picture {
     width: usize,
     height: usize,
     bpp: usize,
 }
 
-// A report in numbers, with the target's checksum.
-#[derive(Clone, Copy)]
-struct Numbers {
-    format: usize,
-    refusal: usize,
-    first: usize,
-    second: usize,
+// A report, with the target's checksum.
+#[derive(Clone, Copy, Debug, PartialEq, Eq)]
+struct Answer {
+    outcome: Numbers,
     pixels: usize,
     orders: usize,
     sum: usize,
 }
 
-#[derive(Clone, Copy)]
+#[derive(Clone, Copy, Debug)]
+struct Record<'a> {
+    picture: Picture,
+    stored: Answer,
+    stream: &'a [u8],
+}
+
+// How many streams were decoded, and how many were answered otherwise than it is stored.
+#[derive(Clone, Copy, Debug, Default)]
 struct Tally {
     streams: usize,
     differ: usize,
 }
 
-fn byte_at(s: &[u8], at: usize) -> usize
-    ensures { result < 256 }
-{
-    if at < s.len() {
-        return widen(s[at]);
+// The records that are left. Where one is cut off, what it would have next is `None`.
+#[derive(Clone, Copy, Debug)]
+struct Records<'a> {
+    rest: &'a [u8],
+}
+
+impl<'a> Records<'a> {
+    // So many bytes.
+    fn bytes(&mut self, count: usize) -> Option<&'a [u8]>
+        ensures taken { IfSome result (λ bytes. length bytes.now ≡ count) }
+        ensures left { OnSome result (length self.new.rest.now + count ≡ length self.old.rest.now) }
+    {
+        let (bytes, rest) = self.rest.split_at_checked(count)?;
+        self.rest = rest;
+        Some(bytes)
     }
-    0
-}
 
-// The number of four bytes from `at` on; bytes past the end count as 0.
-fn number_at(s: &[u8], at: usize) -> usize
-    requires { at < 1048576 }
-    ensures { result < 4294967296 }
-{
-    byte_at(s, at)
-        + byte_at(s, at + 1) * 256
-        + byte_at(s, at + 2) * 65536
-        + byte_at(s, at + 3) * 16777216
-}
+    fn number(&mut self) -> Option<usize>
+        ensures small { IfSome result (λ n. n < 2 ^ 32) }
+        ensures left { OnSome result (length self.new.rest.now + 4 ≡ length self.old.rest.now) }
+    {
+        let bytes = self.bytes(4)?;
+        Some(u32::from_le_bytes([bytes[0], bytes[1], bytes[2], bytes[3]]) as usize)
+    }
 
-fn preset(target: &mut [u8]) {
-    let mut i = 0;
-    while i < target.len() {
-        target[i] = 0x55;
-        i += 1;
+    fn picture(&mut self) -> Option<Picture>
+        ensures { OnSome result (length self.new.rest.now + 12 ≡ length self.old.rest.now) }
+    {
+        Some(Picture {
+            width: self.number()?,
+            height: self.number()?,
+            bpp: self.number()?,
+        })
+    }
+
+    fn answer(&mut self) -> Option<Answer>
+        ensures { OnSome result (length self.new.rest.now + 28 ≡ length self.old.rest.now) }
+    {
+        Some(Answer {
+            outcome: Numbers {
+                format: self.number()?,
+                refusal: self.number()?,
+                first: self.number()?,
+                second: self.number()?,
+            },
+            pixels: self.number()?,
+            orders: self.number()?,
+            sum: self.number()?,
+        })
+    }
+
+    fn record(&mut self) -> Option<Record<'a>>
+        ensures { OnSome result (length self.new.rest.now + 44 ≤ length self.old.rest.now) }
+    {
+        let picture = self.picture()?;
+        let stored = self.answer()?;
+        let length = self.number()?;
+        let stream = self.bytes(length)?;
+        Some(Record {
+            picture,
+            stored,
+            stream,
+        })
     }
 }
 
 // A polynomial of the bytes, modulo the largest prime below 2^32.
 fn checksum(target: &[u8]) -> usize {
-    let mut sum = 0;
-    let mut i = 0;
-    while i < target.len() {
-        sum = (sum * 16777619 + widen(target[i]) + 1) % 4294967291;
-        i += 1;
-    }
-    sum
+    let sum = target.iter().fold(0u32, |sum, byte| {
+        ((u64::from(sum) * 16777619 + u64::from(*byte) + 1) % 4294967291) as u32
+    });
+    sum as usize
 }
 
 fn target_len(p: Picture) -> usize {
-    let size = picture::picture_size(p.width, p.height, p.bpp);
-    match size {
-        picture::PictureSize::Bytes(n) => n,
-        picture::PictureSize::Refused(_) => 64,
-    }
+    picture::picture_size(p.width, p.height, p.bpp).unwrap_or(64)
 }
 
-// What a record stores: the picture, and the report.
-fn picture_at(records: &[u8], at: usize) -> Picture
-    requires { at < 524288 }
-{
-    Picture {
-        width: number_at(records, at),
-        height: number_at(records, at + 4),
-        bpp: number_at(records, at + 8),
-    }
-}
-
-fn numbers_at(records: &[u8], at: usize) -> Numbers
-    requires { at < 524288 }
-{
-    Numbers {
-        format: number_at(records, at + 12),
-        refusal: number_at(records, at + 16),
-        first: number_at(records, at + 20),
-        second: number_at(records, at + 24),
-        pixels: number_at(records, at + 28),
-        orders: number_at(records, at + 32),
-        sum: number_at(records, at + 36),
-    }
-}
-
-fn same(a: Numbers, b: Numbers) -> bool {
-    a.format == b.format
-        && a.refusal == b.refusal
-        && a.first == b.first
-        && a.second == b.second
-        && a.pixels == b.pixels
-        && a.orders == b.orders
-        && a.sum == b.sum
-}
-
-fn in_numbers(r: rle::Report, sum: usize) -> Numbers {
-    let o = r.outcome;
-    let n = picture::numbers_of(o);
-    Numbers {
-        format: n.format,
-        refusal: n.refusal,
-        first: n.first,
-        second: n.second,
+fn with_sum(r: rle::Report, sum: usize) -> Answer {
+    Answer {
+        outcome: Numbers::from(r.outcome),
         pixels: r.pixels,
         orders: r.orders,
         sum,
     }
 }
 
-// The report of decoding into a target that is preset first.
-fn decoded(stream: &[u8], target: &mut [u8], p: Picture) -> Numbers {
-    preset(target);
-    let r = rle::decompress(stream, target, p.width, p.height, p.bpp);
-    in_numbers(r, checksum(target))
+// The report of decoding into a target that is preset.
+fn decoded(alloc: Global, stream: &[u8], p: Picture) -> Result<Answer, AllocError> {
+    let mut target = vec![in alloc; 0x55u8; target_len(p)]?;
+    let report = rle::decompress(stream, &mut target, p.width, p.height, p.bpp);
+    Ok(with_sum(report, checksum(&target)))
 }
 
 // The report of counting the stream's orders, which has no target of its own.
-fn counted(stream: &[u8], p: Picture, sum: usize) -> Numbers {
-    in_numbers(rle::count_orders(stream, p.width, p.height, p.bpp), sum)
+fn counted(stream: &[u8], p: Picture, sum: usize) -> Answer {
+    with_sum(rle::count_orders(stream, p.width, p.height, p.bpp), sum)
 }
 
-// Whether the record at `at`, whose stream is given, has the reports that are stored.
-fn agrees(records: &[u8], at: usize, stream: &[u8], target: &mut [u8]) -> bool
-    requires { at < 524288 }
-{
-    let p = picture_at(records, at);
-    let n = target_len(p);
-    if target.len() < n {
-        return false;
-    }
-    let stored = numbers_at(records, at);
-    let a = decoded(stream, &mut target[..n], p);
-    if !same(a, stored) {
-        return false;
-    }
-    same(counted(stream, p, stored.sum), stored)
+// Whether both answers are the one that is stored.
+fn agrees(alloc: Global, record: Record) -> Result<bool, AllocError> {
+    let Record {
+        picture,
+        stored,
+        stream,
+    } = record;
+    Ok(decoded(alloc, stream, picture)? == stored && counted(stream, picture, stored.sum) == stored)
 }
 
 // All records; one that is cut off counts as differing.
-fn replay(records: &[u8], target: &mut [u8]) -> Tally
-    requires { length records.now ≤ 262144 }
-{
-    let mut tally = Tally {
-        streams: 0,
-        differ: 0,
-    };
-    let mut at = 0;
-    while at < records.len() {
-        let start = at + 44;
-        let end = start + number_at(records, at + 40);
-        tally.streams = tally.streams + 1;
-        if records.len() < end {
-            tally.differ = tally.differ + 1;
-            return tally;
+fn replay(alloc: Global, data: &[u8]) -> Result<Tally, AllocError> {
+    let mut records = Records { rest: data };
+    let mut tally = Tally::default();
+    while !records.rest.is_empty() {
+        tally.streams += 1;
+        let Some(record) = records.record() else {
+            tally.differ += 1;
+            return Ok(tally);
+        };
+        if !agrees(alloc, record)? {
+            tally.differ += 1;
         }
-        if !agrees(records, at, &records[start..end], target) {
-            tally.differ = tally.differ + 1;
-        }
-        at = end;
     }
-    tally
-}
-
-// Reads until `buf` is full or the input ends, and gives how many bytes it put at the start of `buf`.
-fn read_full<R: Read>(input: &mut R, buf: &mut [u8]) -> io::Result<usize>
-    ensures in_bounds { ReadsAtMost result buf.new }
-    ensures bytes { IfOk result (λ n. Consumes (R.remaining input.old) (R.remaining input.new) (take n buf.new)) }
-    ensures to_the_end { IfOk result (λ n. n < length buf.new → IsAtEnd (R.remaining input.new)) }
-{
-    let mut done = 0;
-    while done < buf.len() {
-        let n = input.read(&mut buf[done..])?;
-        if n == 0 {
-            return Ok(done);
-        }
-        done += n;
-    }
-    Ok(done)
+    Ok(tally)
 }
 
 fn main(rt: HostRuntime) -> io::Result<()> {
@@ -212,9 +175,8 @@ fn main(rt: HostRuntime) -> io::Result<()> {
         Ok(file) => file,
         Err(error) => return eprintln!(rt; "{path}: {error}"),
     };
-    let mut data = [0u8; 262144];
-    let n = read_full(&mut file, &mut data)?;
-    let mut target = [0u8; 65536];
-    let tally = replay(&data[..n], &mut target);
+    let mut data = Vec::new(rt.alloc());
+    file.read_to_end(&mut data)?;
+    let tally = replay(rt.alloc(), &data)?;
     println!(rt; "{} streams, {} differ", tally.streams, tally.differ)
 }

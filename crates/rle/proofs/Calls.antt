@@ -7,25 +7,25 @@ use native.Mathlib.Omega.{arith}
 use lib.ListN.{length, take-append-drop}
 use lib.Seq.{length-take-le}
 use borrow.Author.Tests.{lt-ltb, le-ltb}
-use Rattle.picture.specs.declared.depth.Depth.{Depth as CodeDepth}
+use Rattle.std.specs.Prelude.{Ok, Err}
+use Rattle.rle.specs.declared.state.Frame.{Frame as CodeFrame}
 use Rattle.rle.specs.declared.state.Stepped.{Stepped}
-use Rattle.rle.specs.declared.plan.Ending.{Ending as CodeEnding}
-use Rattle.rle.specs.declared.plan.Ending.TheVariants.{Complete, Refused}
 use Rattle.rle.specs.declared.report.Report.{Report}
 use Rattle.picture.specs.declared.outcome.RleError.{RleError}
 use Rattle.picture.specs.declared.outcome.RleError.TheVariants.{BufferTooShort}
 use Rattle.picture.specs.Pixels.{bytes_of}
-use Rattle.picture.specs.Sizes.{Frame, Depth, depth_of, Checked, refused, accept, checked, with_space, bytes, size_of}
+use Rattle.picture.specs.Sizes.{Frame, depth_of, Checked, refused, accepted, accept, checked, with_space, size_of}
 use Rattle.definition.specs.Decode.{State, then_run, decode, result_of, of_run, of_checked, result_in, Summary}
 use Rattle.definition.specs.Plan.{end_with}
-use Rattle.picture.specs.Outcomes.{refusal_of, depth_in}
+use Rattle.picture.specs.Outcomes.{refusal_of, format_of}
 use Rattle.rle.specs.Report.{summary_in, Agrees, Decompresses}
+use Rattle.rle.specs.Planning.{CodeEnding}
 use Rattle.rle.specs.States.{frame_of, state_of, Framed}
 use Rattle.rle.specs.Orders.{Decodes, run_in}
 use Rattle.rle.specs.Reporting.{refusal_after, format_after, summary_after, not_decoded}
 use Rattle.picture.proofs.Pixels.{length-pixels_of, bytes-pixels}
-use Rattle.picture.proofs.Depths.{Good, depth_good}
-use Rattle.picture.proofs.Sizes.{few, sized, size-refused}
+use Rattle.picture.proofs.Depths.{depth_good}
+use Rattle.picture.proofs.Sizes.{few, sized}
 use Rattle.definition.proofs.Bounds.{Bytes, last, decode_bounds}
 
 -- ---- refusals before the stream
@@ -45,34 +45,30 @@ refused-is src before total e p =
     })
 
 module _ (src before : List ℕ) (bpp w h : ℕ) {r : Report} {e : RleError} (is : r ≡ not_decoded e) where
-  pub reports_refused : refused (refusal_of e) ≡ size_of (checked bpp w h) → Decompresses src bpp w h before before r
+  pub reports_refused : refused (refusal_of e) ≡ checked bpp w h → Decompresses src bpp w h before before r
   unfolding result_in with_space
   reports_refused s =
       rw is
-      (refused-is src before (w * h) e
-      (ap (λ (c : Checked). with_space (length before) c) (size-refused (checked bpp w h) (refusal_of e) s)))
+      (refused-is src before (w * h) e (ap (λ (c : Checked). with_space (length before) c) (sym s)))
 
-  pub reports_short : (n : ℕ) → bytes n ≡ size_of (checked bpp w h) → length before < n → e ≡ BufferTooShort n (length before)
-      → Decompresses src bpp w h before before r
-  unfolding result_in with_space accept
-  reports_short n s l q =
-      let k = sized bpp w h n s in
-      rw is
-      (refused-is src before (w * h) e
-      (rw (k.checks, q, k.size) (rw (lt-ltb (length before) (w * h * (depth_of bpp).bytes) (rw k.size at l)))))
+  pub reports_short : (f : CodeFrame) → accepted (frame_of f) (format_of f.depth.format) ≡ checked bpp w h
+      → length before < f.total * f.depth.bytes → e ≡ BufferTooShort (f.total * f.depth.bytes) (length before) → Decompresses src bpp w h before before r
+  unfolding result_in with_space
+  reports_short f s l q =
+      rw is (refused-is src before (w * h) e (rw (← s, q, lt-ltb (length before) (f.total * f.depth.bytes) l)))
 
 -- ---- the stream
 
 -- the result by the ending of the last order
 pub result-is : (f : Frame) (k : ℕ) (a : CodeEnding) (s : State) → result_of (refusal_after a) (format_after a k) f.bytes s ≡ of_run f k (run_in a s)
 unfolding of_run then_run end_with
-result-is f k Complete s = refl
-result-is f k (Refused e) s = refl
+result-is f k (Ok u) s = refl
+result-is f k (Err e) s = refl
 
 last_is : (a : CodeEnding) (s : State) → last (run_in a s) ≡ s
 unfolding then_run end_with
-last_is Complete s = refl
-last_is (Refused e) s = refl
+last_is (Ok u) s = refl
+last_is (Err e) s = refl
 
 module _ (f : Frame) (k : ℕ) (src before after : List ℕ) (s : Stepped) (frame : Framed (length before) f) (same : length after ≡ length before)
     (octets : Bytes src) (decodes : Decodes f src before after s) (r : Report) (reports : summary_in r ≡ summary_after s.ending k s.state.pixels s.state.orders) where
@@ -109,30 +105,52 @@ module _ (f : Frame) (k : ℕ) (src before after : List ℕ) (s : Stepped) (fram
         bounded = rw pixels bounded-is;
       })
 
-module _ (bpp w h : ℕ) {n : ℕ} (is : bytes n ≡ size_of (checked bpp w h)) {d : CodeDepth} (row : depth_in d ≡ depth_of bpp) where
-  pub good : Good (depth_in d)
-  good = rw row (depth_good bpp (sized bpp w h n is).known)
+-- what a frame says of its picture
+pub record FrameOf (bpp w h : ℕ) (f : CodeFrame) : Type 0 where
+  pub low : 1 ≤ f.depth.bytes
+  pub high : f.depth.bytes ≤ 3
+  pub wide : 1 ≤ f.width
+  pub few : f.total ≤ 67108864
+  pub total : f.total ≡ w * h
+  pub good : (given : ℕ) → f.total * f.depth.bytes ≤ given → Framed given (frame_of f)
 
-  module _ (before : List ℕ) (space : n ≤ length before) where
-    pub frame_good : Framed (length before) (frame_of (record { depth = d; width = w; total = w * h }))
-    frame_good =
-        let k = sized bpp w h n is in
-        let b : d.bytes ≡ (depth_of bpp).bytes = ap (λ (x : Depth). x.bytes) row in
-        record {
-          low = good.low;
-          high = good.high;
-          wide = k.wide;
-          few = few k.width k.height;
-          fits = rw (b, ← k.size) space;
-          white = good.white;
-          black = good.black;
-        }
+module _ (bpp w h : ℕ) (f : CodeFrame) (is : accepted (frame_of f) (format_of f.depth.format) ≡ checked bpp w h) where
+  pub frame_known : FrameOf bpp w h f
+  unfolding size_of accept
+  frame_known =
+      let k = sized bpp w h (f.total * f.depth.bytes) (ap size_of is) in
+      let a : accepted (frame_of f) (format_of f.depth.format) ≡ accept (depth_of bpp) w h = is ∙ k.checks in
+      let g : frame_of f ≡ record { bytes = (depth_of bpp).bytes; white = (depth_of bpp).white; black = (depth_of bpp).black; width = w; total = w * h } = cc in
+      let d = depth_good bpp k.known in
+      let b : f.depth.bytes ≡ (depth_of bpp).bytes = ap (λ (x : Frame). x.bytes) g in
+      let l : 1 ≤ f.depth.bytes = rw b d.low in
+      let u : f.depth.bytes ≤ 3 = rw b d.high in
+      let v : 1 ≤ f.width = rw (ap (λ (x : Frame). x.width) g) k.wide in
+      let t : f.total ≡ w * h = ap (λ (x : Frame). x.total) g in
+      let n : f.total ≤ 67108864 = rw t (few k.width k.height) in
+      record {
+        low = l;
+        high = u;
+        wide = v;
+        few = n;
+        total = t;
+        good = λ given fits.
+            record {
+              low = l;
+              high = u;
+              wide = v;
+              few = n;
+              fits = fits;
+              white = rw (ap (λ (x : Frame). x.white) g, b) d.white;
+              black = rw (ap (λ (x : Frame). x.black) g) d.black;
+            };
+      }
 
+  module _ (before : List ℕ) (space : f.total * f.depth.bytes ≤ length before) where
     pub reports_decoded : (src after : List ℕ) (s : Stepped) → length after ≡ length before → Bytes src
-        → Decodes (frame_of (record { depth = d; width = w; total = w * h })) src before after s
-        → (r : Report) → summary_in r ≡ summary_after s.ending d.format s.state.pixels s.state.orders → Decompresses src bpp w h before after r
-    unfolding result_in of_checked with_space accept
+        → Decodes (frame_of f) src before after s
+        → (r : Report) → summary_in r ≡ summary_after s.ending (format_of f.depth.format) s.state.pixels s.state.orders → Decompresses src bpp w h before after r
+    unfolding result_in of_checked with_space
     reports_decoded src after s same octets decodes r reports =
-        let k = sized bpp w h n is in
-        rw (k.checks, le-ltb (length before) (w * h * (depth_of bpp).bytes) (rw k.size at space), ← row)
-        (reports_run _ d.format src before after s frame_good same octets decodes r reports)
+        rw (← frame_known.total, ← is, le-ltb (length before) (f.total * f.depth.bytes) space)
+        (reports_run _ (format_of f.depth.format) src before after s (frame_known.good (length before) space) same octets decodes r reports)

@@ -1,36 +1,31 @@
 -- Laws of a call without a target: refused before the stream, or walked to its end. Assumes nothing.
 use mathlib.Core.Path.{◌≡◌, sym, ◌∙◌}
 use mathlib.Core.List.{List}
-use Prim.Native.Nat.{ℕ, ◌*◌, ◌≤◌}
+use Prim.Native.Nat.{ℕ, ◌≤◌}
 use native.Mathlib.Nat.{zero-add}
 use native.Mathlib.Omega.{arith}
-use Rattle.picture.specs.declared.depth.Depth.{Depth as CodeDepth}
+use Rattle.std.specs.Prelude.{Some, None, Ok, Err}
 use Rattle.picture.specs.declared.outcome.RleError.{RleError}
 use Rattle.rle.specs.declared.report.Report.{Report}
-use Rattle.rle.specs.declared.plan.Ending.{Ending as CodeEnding}
-use Rattle.rle.specs.declared.plan.Ending.TheVariants.{Complete, Refused}
 use Rattle.rle.specs.declared.state.Frame.{Frame as CodeFrame}
-use Rattle.rle.specs.declared.walk.Stop.{Stop}
-use Rattle.rle.specs.declared.walk.Stop.TheVariants as stop
 use Rattle.rle.specs.declared.walk.Walk.{Walk}
 use Rattle.rle.specs.declared.walk.Walked.{Walked}
-use Rattle.picture.specs.Sizes.{Frame, depth_of, accept, checked, bytes, refused, size_of}
-use Rattle.picture.specs.Outcomes.{refusal_of, depth_in}
-use Rattle.picture.proofs.Sizes.{sized, size-refused}
+use Rattle.picture.specs.Sizes.{Frame, checked, accepted, refused}
+use Rattle.picture.specs.Outcomes.{refusal_of, format_of}
 use Rattle.definition.specs.Decode.{start, decode, result_of, of_run, of_checked, result, summary_of}
 use Rattle.rle.specs.Report.{summary_in}
+use Rattle.rle.specs.Planning.{CodeEnding}
 use Rattle.rle.specs.States.{frame_of}
-use Rattle.rle.specs.Walking.{ending_by, RunsOut, stops_at, WalksOrders}
+use Rattle.rle.specs.Walking.{Stop, ending_by, RunsOut, stops_at, WalksOrders}
 use Rattle.rle.specs.Walks.{start_walk}
 use Rattle.rle.specs.Reporting.{summary_after, not_decoded}
 use Rattle.rle.proofs.Calls.{result-is}
 use Rattle.rle.proofs.Finding.{start-stands}
 
-pub counts-refused : (src : List ℕ) (bpp w h : ℕ) {r : Report} {e : RleError} → r ≡ not_decoded e → refused (refusal_of e) ≡ size_of (checked bpp w h)
+pub counts-refused : (src : List ℕ) (bpp w h : ℕ) {r : Report} {e : RleError} → r ≡ not_decoded e → refused (refusal_of e) ≡ checked bpp w h
     → summary_in r ≡ summary_of (result src bpp w h)
 unfolding result of_checked
-counts-refused src bpp w h {e = e} is s =
-    rw (is, size-refused (checked bpp w h) (refusal_of e) s)
+counts-refused src bpp w h {e = e} is s = rw (is, ← s)
 
 -- the orders ran out: the report
 counts-run : (f : Frame) (c : ℕ) (src : List ℕ) (n : ℕ) (e : CodeEnding) (pixels orders : ℕ) → RunsOut f (start f src) n e pixels orders → (r : Report)
@@ -44,16 +39,15 @@ counts-run f c src n e pixels orders out r reports =
 counts_stopped : (f : CodeFrame) (c : ℕ) (src : List ℕ) (x : Stop) (w : Walk) (k : ℕ) → k ≤ f.total
     → stops_at x (frame_of f) src (start (frame_of f) src) f.total w k → (r : Report) → summary_in r ≡ summary_after (ending_by x) c w.pixels k
     → summary_in r ≡ summary_of (of_run (frame_of f) c (decode (frame_of f) src))
-counts_stopped f c src stop.End w k few out r reports = counts-run (frame_of f) c src f.total Complete w.pixels k out r reports
-counts_stopped f c src (stop.Refused e) w k few out r reports = counts-run (frame_of f) c src f.total (Refused e) w.pixels k out r reports
-counts_stopped f c src (stop.Order x) w k few reaches r reports = absurd (omega (arith, reaches.counted))
+counts_stopped f c src (Ok None) w k few out r reports = counts-run (frame_of f) c src f.total (Ok tt) w.pixels k out r reports
+counts_stopped f c src (Err e) w k few out r reports = counts-run (frame_of f) c src f.total (Err e) w.pixels k out r reports
+counts_stopped f c src (Ok (Some x)) w k few reaches r reports = absurd (omega (arith, reaches.counted))
 
-pub counts_walked : (bpp w h : ℕ) {n : ℕ} → bytes n ≡ size_of (checked bpp w h) → {d : CodeDepth} → depth_in d ≡ depth_of bpp → (src : List ℕ) (x : Walked)
-    → let f : CodeFrame = record { depth = d; width = w; total = w * h } in WalksOrders (frame_of f) src start_walk (w * h) x
-    → (r : Report) → summary_in r ≡ summary_after (ending_by x.stop) d.format x.walk.pixels x.orders
+pub counts_walked : (bpp w h : ℕ) (f : CodeFrame) → accepted (frame_of f) (format_of f.depth.format) ≡ checked bpp w h → (src : List ℕ) (x : Walked)
+    → WalksOrders (frame_of f) src start_walk f.total x
+    → (r : Report) → summary_in r ≡ summary_after (ending_by x.stop) (format_of f.depth.format) x.walk.pixels x.orders
     → summary_in r ≡ summary_of (result src bpp w h)
-unfolding result of_checked accept
-counts_walked bpp w h {n} is {d} row src x walks r reports =
-    let f : CodeFrame = record { depth = d; width = w; total = w * h } in
-    rw ((sized bpp w h n is).checks, ← row)
-    (counts_stopped f d.format src x.stop x.walk x.orders walks.within (walks.stops (start (frame_of f) src) (start-stands (frame_of f) src)) r reports)
+unfolding result of_checked
+counts_walked bpp w h f is src x walks r reports =
+    rw (← is)
+    (counts_stopped f (format_of f.depth.format) src x.stop x.walk x.orders walks.within (walks.stops (start (frame_of f) src) (start-stands (frame_of f) src)) r reports)

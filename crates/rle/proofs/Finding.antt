@@ -1,13 +1,12 @@
 -- Laws of looking for an order: what a walk stands for; refused before the stream, past the picture, or found by a walk. Assumes nothing.
 use mathlib.Core.Path.{◌≡◌, refl}
 use mathlib.Core.List.{List, []}
-use Prim.Native.Nat.{ℕ, ◌*◌, ◌<◌}
+use Prim.Native.Nat.{ℕ, ◌<◌}
 use native.Mathlib.Omega.{arith}
 use lib.ListN.{length, drop}
-use Rattle.picture.specs.declared.depth.Depth.{Depth as CodeDepth}
-use Rattle.picture.specs.Sizes.{Refusal, Frame, depth_of, accept, checked, bytes, refused, size_of}
-use Rattle.picture.specs.Outcomes.{depth_in}
-use Rattle.picture.proofs.Sizes.{sized, size-refused}
+use Rattle.std.specs.Prelude.{Some, None, Ok, Err}
+use Rattle.picture.specs.Sizes.{Refusal, Frame, accepted, checked, refused}
+use Rattle.picture.specs.Outcomes.{format_of}
 use Rattle.picture.specs.Pixels.{pixels_of}
 use Rattle.picture.proofs.Pixels.{length-pixels_of}
 use Rattle.definition.specs.Decode.{State, state, start}
@@ -16,17 +15,10 @@ use Rattle.definition.proofs.Bounds.{Bytes, bytes_drop}
 use Rattle.definition.proofs.Records.{orders_without_room}
 use Rattle.rle.specs.declared.state.Frame.{Frame as CodeFrame}
 use Rattle.rle.specs.declared.walk.Walk.{Walk}
-use Rattle.rle.specs.declared.walk.Found.TheVariants as found
-use Rattle.rle.specs.declared.walk.Stop.{Stop}
-use Rattle.rle.specs.declared.walk.Stop.TheVariants as stop
 use Rattle.rle.specs.declared.walk.Walked.{Walked}
 use Rattle.rle.specs.States.{frame_of}
-use Rattle.rle.specs.Walking.{found_by, stops_at, WalksOrders}
+use Rattle.rle.specs.Walking.{Stop, found_by, stops_at, WalksOrders}
 use Rattle.rle.specs.Walks.{start_walk, StandsFor, Finds, FindsOrder}
-
-pub finds-refused : (src : List ℕ) (bpp w h n : ℕ) (from : Walk) {r : Refusal} → refused r ≡ size_of (checked bpp w h)
-    → FindsOrder src bpp w h from n found.NoOrder
-finds-refused src bpp w h n from {r} s = rw (size-refused (checked bpp w h) r s)
 
 -- ---- what a walk stands for
 
@@ -51,22 +43,18 @@ start-stands f src = record { left = refl; pixels = refl; insert = refl; mark = 
 
 reached_finds : (f : Frame) (src : List ℕ) (first : State) (n : ℕ) (x : Stop) (w : Walk) (k : ℕ) → stops_at x f src first n w k
     → Finds f src (found_by x w) (nth (orders_from f (length first.left) first) n)
-reached_finds f src first n stop.End w k out = rw out.none tt
-reached_finds f src first n (stop.Refused e) w k out = rw out.none tt
-reached_finds f src first n (stop.Order r) w k reaches = rw reaches.is (reaches.told, reaches.stands)
+reached_finds f src first n (Ok None) w k out = rw out.none tt
+reached_finds f src first n (Err e) w k out = rw out.none tt
+reached_finds f src first n (Ok (Some r)) w k reaches = rw reaches.is (reaches.told, reaches.stands)
 
-module _ (bpp w h : ℕ) {m : ℕ} (is : bytes m ≡ size_of (checked bpp w h)) {d : CodeDepth} (row : depth_in d ≡ depth_of bpp) (src : List ℕ) (from : Walk) (n : ℕ) where
-  abbrev frame : CodeFrame
-  frame = record { depth = d; width = w; total = w * h }
-
-  pub finds_past : w * h < from.pixels → Bytes src → FindsOrder src bpp w h from n found.NoOrder
-  unfolding accept nth
+module _ (bpp w h : ℕ) (f : CodeFrame) (is : accepted (frame_of f) (format_of f.depth.format) ≡ checked bpp w h) (src : List ℕ) (from : Walk) (n : ℕ) where
+  pub finds_past : f.total < from.pixels → Bytes src → FindsOrder src bpp w h from n None
+  unfolding nth
   finds_past past octets =
-      rw ((sized bpp w h m is).checks, ← row)
+      rw (← is)
       (λ s stands.
-      rw (orders_without_room (frame_of frame) s (omega (arith, stands.pixels)) (length s.left) (rw stands.left (bytes_drop from.pos src octets))) tt)
+      rw (orders_without_room (frame_of f) s (omega (arith, stands.pixels)) (length s.left) (rw stands.left (bytes_drop from.pos src octets))) tt)
 
-  pub finds_walked : (r : Walked) → WalksOrders (frame_of frame) src from n r → FindsOrder src bpp w h from n (found_by r.stop r.walk)
-  unfolding accept
+  pub finds_walked : (r : Walked) → WalksOrders (frame_of f) src from n r → FindsOrder src bpp w h from n (found_by r.stop r.walk)
   finds_walked r walks =
-      rw ((sized bpp w h m is).checks, ← row) (λ s stands. reached_finds (frame_of frame) src s n r.stop r.walk r.orders (walks.stops s stands))
+      rw (← is) (λ s stands. reached_finds (frame_of f) src s n r.stop r.walk r.orders (walks.stops s stands))

@@ -2,6 +2,7 @@ pub mod Pixels
 pub mod Painting
 pub mod Lengths
 pub mod Numbers
+mod Endings
 pub mod Heads
 pub mod Inks
 pub mod Orders

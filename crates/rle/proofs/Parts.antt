@@ -3,6 +3,8 @@
 use mathlib.Core.Path.{◌≡◌, refl, ap, sym, ◌∙◌, subst}
 use mathlib.Core.List.{List, [], ◌∷◌, ◌++◌}
 use mathlib.Core.Bool.{Bool, true, false}
+use Rattle.std.specs.Prelude.{Option, None, Some}
+use Rattle.std.specs.Option.{unwrap_or}
 use Prim.Native.Nat.{ℕ, ◌+◌, ◌-◌, ◌*◌, ◌/◌, ◌%◌, ◌≤◌, ◌<◌}
 use native.Mathlib.Nat.{add-zero, zero-add, le_refl, mul-le-mul_right, div-lt_iff_lt-mul}
 use native.Mathlib.Omega.{arith}
@@ -14,7 +16,6 @@ use borrow.Author.Tests.{le-leb}
 use Rattle.base.specs.Picks.{pick}
 use Rattle.base.proofs.Tests.{by_test}
 use Rattle.picture.specs.Pixels.{Pixel, pixel_at, OfDepth}
-use Rattle.picture.proofs.Pixels.{three, length_of_depth}
 use Rattle.definition.specs.Decode.{solid, above, above_xor, fg_ink, bg_ink, dither_ink}
 use Rattle.definition.specs.Plan.{image_ink}
 use Rattle.byte_runs.specs.Runs as runs
@@ -24,13 +25,6 @@ use Rattle.byte_runs.proofs.Parts.{in_part, length_part}
 use Rattle.byte_runs.proofs.Runs.{run_cong}
 use Rattle.rle.specs.Painting.{HasPlace, Painted}
 use Rattle.rle.proofs.Writers.{fill_painted, back-painted, xor_painted, image-painted, dither_painted, rows-painted}
-
--- the bytes of a pixel, one by one
-abbrev bytes_in : Pixel → List ℕ
-bytes_in p = get_or p 0 0 ∷ get_or p 1 0 ∷ get_or p 2 0 ∷ []
-
-bytes_of_lem : (D : ℕ) (p : Pixel) → OfDepth D p → p ≡ bytes_in p
-bytes_of_lem D p of = three p (length_of_depth D p of)
 
 -- the list with the part as it then is
 abbrev put_back : ℕ → ℕ → List ℕ → List ℕ → List ℕ
@@ -57,13 +51,12 @@ module _ (D w k n : ℕ) (xs part : List ℕ) (place : HasPlace D k n xs) where
       in_part (bytes u) (bytes u) (k * D) size 0 m xs part holds inside (omega arith) (λ x j h. refl) e
       ∙ (λ i. run (bytes u) (add-zero (k * D) i) (em i) xs)
 
-  pub part_filled : (p : Pixel) → OfDepth D p → part ≡ run_where (pixels_there D 0 n own) (bytes (turn (bytes_in p) D)) 0 (n * D) own
+  pub part_filled : (p : Pixel) → OfDepth D p → part ≡ run_where (pixels_there D 0 n own) (bytes (turn p D)) 0 (n * D) own
       → Painted D w (λ _. solid p) k n xs (put_back (k * D) size xs part)
   part_filled p of e =
       let holds : pixels_there D 0 n own ≡ true = pixels-there D 0 n own place.low place.high (omega (arith, all_own)) in
       subst (λ (ys : List ℕ). Painted D w (λ _. solid p) k n xs ys)
-      (ap (λ (q : Pixel). run (bytes (turn q D)) (k * D) (n * D) xs) (bytes_of_lem D p of)
-      ∙ sym (own_run (turn (bytes_in p) D) (n * D) (pixels_there D 0 n own) refl holds e))
+      (sym (own_run (turn p D) (n * D) (pixels_there D 0 n own) refl holds e))
       (fill_painted D w k n xs place.low place.high place.fits p of)
 
   pub part_copied : (s : List ℕ) (from : ℕ) → from + n * D ≤ length s
@@ -87,14 +80,13 @@ module _ (D w k n : ℕ) (xs part : List ℕ) (place : HasPlace D k n xs) where
 
   -- two colors by turns, in pairs
   pub part_paired : (p q : Pixel) (pairs : ℕ) → n ≡ pairs * 2 → OfDepth D p → OfDepth D q
-      → part ≡ run_where (pixels_there D 0 (pairs * 2) own) (bytes (turn (pair_of D (bytes_in p) (bytes_in q)) (2 * D))) 0 (pairs * 2 * D) own
+      → part ≡ run_where (pixels_there D 0 (pairs * 2) own) (bytes (turn (pair_of D p q) (2 * D))) 0 (pairs * 2 * D) own
       → Painted D w (dither_ink p q) k n xs (put_back (k * D) size xs part)
   part_paired p q pairs en of of' e =
       let em : pairs * 2 * D ≡ n * D = ap (λ (m : ℕ). m * D) (sym en) in
       let holds : pixels_there D 0 (pairs * 2) own ≡ true = pixels-there D 0 (pairs * 2) own place.low place.high (omega (arith, all_own)) in
       subst (λ (ys : List ℕ). Painted D w (dither_ink p q) k n xs ys)
-      ((λ i. run (bytes (turn (pair_of D (bytes_of_lem D p of i) (bytes_of_lem D q of' i)) (2 * D))) (k * D) (n * D) xs)
-      ∙ sym (own_run (turn (pair_of D (bytes_in p) (bytes_in q)) (2 * D)) (pairs * 2 * D) (pixels_there D 0 (pairs * 2) own) em holds e))
+      (sym (own_run (turn (pair_of D p q) (2 * D)) (pairs * 2 * D) (pixels_there D 0 (pairs * 2) own) em holds e))
       (dither_painted D w k n xs place.low place.high place.fits p q of of')
 
 -- n pixels of D bytes from number k on, in a part that has the row above too
@@ -144,17 +136,28 @@ module _ (D w k n : ℕ) (xs part : List ℕ) (place : HasPlace D k n xs) (wide 
       (back-painted D w k n xs place.low place.high place.fits wide row)
 
   pub part_xored : (p : Pixel) → OfDepth D p
-      → part ≡ run_where (both (leb (w * D) (w * D)) (pixels_there D (w * D) n both-rows)) (xored (w * D) (w * D) (turn (bytes_in p) D)) (w * D) (n * D) both-rows
+      → part ≡ run_where (both (leb (w * D) (w * D)) (pixels_there D (w * D) n both-rows)) (xored (w * D) (w * D) (turn p D)) (w * D) (n * D) both-rows
       → Painted D w (λ _. above_xor p) k n xs (put_back begin extent xs part)
   part_xored p of e =
       let holds : both (leb (w * D) (w * D)) (pixels_there D (w * D) n both-rows) ≡ true =
       both_hold _ _ own_row (pixels-there D (w * D) n both-rows place.low place.high there_too) in
       subst (λ (ys : List ℕ). Painted D w (λ _. above_xor p) k n xs ys)
-      (ap (λ (q : Pixel). run (xored (k * D) (w * D) (turn q D)) (k * D) (n * D) xs) (bytes_of_lem D p of)
-      ∙ sym (rows_run (λ (b j : ℕ). bit_xor b (turn (bytes_in p) D j)) (both (leb (w * D) (w * D)) (pixels_there D (w * D) n both-rows)) holds e))
+      (sym (rows_run (λ (b j : ℕ). bit_xor b (turn p D j)) (both (leb (w * D) (w * D)) (pixels_there D (w * D) n both-rows)) holds e))
       (xor_painted D w k n xs place.low place.high place.fits wide row p of)
 
 -- ---- masks
+
+-- how far back they look: nowhere in the first row
+abbrev back_of : Bool → ℕ → ℕ → Option ℕ
+back_of first w D = pick first None (Some (w * D))
+
+-- so many bytes, or none
+pub bytes-back : (first : Bool) (w D row : ℕ) (b : Option ℕ) → b ≡ pick first None (Some (w * D)) → row ≡ unwrap_or b 0 → row ≡ pick first 0 (w * D)
+bytes-back first w D row b e r = r ∙ ap (λ (o : Option ℕ). unwrap_or o 0) e ∙ go first
+  where
+    go : (t : Bool) → unwrap_or (pick t None (Some (w * D))) 0 ≡ pick t 0 (w * D)
+    go true = refl
+    go false = refl
 
 -- masks that stand in a part of the stream
 masked_source : (s q : List ℕ) (from m D j : ℕ) → 1 ≤ D → j < m * 8 * D → masked_by (take (from + m - from) (drop from s)) 0 D q j ≡ masked_by s from D q j
@@ -191,60 +194,56 @@ module _ (D w k m : ℕ) (xs part s : List ℕ) (from : ℕ) (first : Bool) (pla
   in_list : least + extent_of ≤ length xs
   in_list = omega (arith, place.fits, far_back)
 
-  -- the row above is the run's own
-  far_is : (q : List ℕ) → run (row_bytes first (k * D) far (masked_by s from D q)) (k * D) (m * 8 * D) xs
-      ≡ run (row_bytes first (k * D) (w * D) (masked_by s from D q)) (k * D) (m * 8 * D) xs
-  far_is q = go first
-    where
-      go : (t : Bool) → run (row_bytes t (k * D) (pick t 0 (w * D)) (masked_by s from D q)) (k * D) (m * 8 * D) xs
-          ≡ run (row_bytes t (k * D) (w * D) (masked_by s from D q)) (k * D) (m * 8 * D) xs
-      go true = refl
-      go false = refl
-
   same_bytes_lem : (q x : List ℕ) (j : ℕ) → j < m * 8 * D
-      → row_bytes first far far (masked_by source 0 D q) (take extent_of (drop least x)) j ≡ row_bytes first (k * D) far (masked_by s from D q) x j
+      → row_bytes (back_of first w D) far (masked_by source 0 D q) (take extent_of (drop least x)) j ≡ row_bytes (back_of first w D) (k * D) (masked_by s from D q) x j
   same_bytes_lem q x j h =
       let place_is : least + (far + j - far) ≡ k * D + j - far = omega (arith, far_back) in
       let above-is : get_or (take extent_of (drop least x)) (far + j - far) 0 ≡ get_or x (k * D + j - far) 0 =
       get_or-take extent_of (drop least x) (far + j - far) 0 (omega (arith, far_back)) ∙ get_or-drop least x (far + j - far) 0 ∙ ap (λ (a : ℕ). get_or x a 0) place_is in
-      go first (masked_source s q from m D j place.low h) above-is
+      go first refl (masked_source s q from m D j place.low h) above-is
     where
-      go : (t : Bool) → masked_by source 0 D q j ≡ masked_by s from D q j
+      go : (t : Bool) → far ≡ pick t 0 (w * D) → masked_by source 0 D q j ≡ masked_by s from D q j
           → get_or (take extent_of (drop least x)) (far + j - far) 0 ≡ get_or x (k * D + j - far) 0
-          → row_bytes t far far (masked_by source 0 D q) (take extent_of (drop least x)) j ≡ row_bytes t (k * D) far (masked_by s from D q) x j
-      go true e f = e
-      go false e f = λ i. bit_xor (f i) (e i)
+          → row_bytes (back_of t w D) far (masked_by source 0 D q) (take extent_of (drop least x)) j ≡ row_bytes (back_of t w D) (k * D) (masked_by s from D q) x j
+      go true is e f = e
+      go false is e f =
+          let above : get_or (take extent_of (drop least x)) (far + j - w * D) 0 ≡ get_or x (k * D + j - w * D) 0 =
+          subst (λ (r : ℕ). get_or (take extent_of (drop least x)) (far + j - r) 0 ≡ get_or x (k * D + j - r) 0) is f in
+          λ i. bit_xor (above i) (e i)
+
+  row-there : row_there (back_of first w D) far ≡ true
+  row-there = go first
+    where
+      go : (t : Bool) → row_there (back_of t w D) (pick t 0 (w * D)) ≡ true
+      go true = refl
+      go false = le-leb (w * D) (w * D) (le_refl (w * D))
 
   pub part_masked : (p : Pixel) → OfDepth D p
-      → part ≡ run_where (both (row_there first far far) (both (there 0 m source) (pixels_there D far (m * 8) lent)))
-      (row_bytes first far far (masked_by source 0 D (bytes_in p))) far (m * 8 * D) lent
+      → part ≡ run_where (both (row_there (back_of first w D) far) (both (there 0 m source) (pixels_there D far (m * 8) lent)))
+      (row_bytes (back_of first w D) far (masked_by source 0 D p)) far (m * 8 * D) lent
       → Painted D w (image_ink (fg_ink first p) (bg_ink first (0 ∷ 0 ∷ 0 ∷ [])) (drop from s)) k (m * 8) xs (put_back least extent_of xs part)
   part_masked p of e =
       let at-is : least + far ≡ k * D = omega (arith, far_back) in
-      let test = both (row_there first far far) (both (there 0 m source) (pixels_there D far (m * 8) lent)) in
-      let row-there : row_there first far far ≡ true = rw (le-leb far far (le_refl far)) (by_test (λ (t : Bool). t ≡ true) first (λ _. refl) (λ _. refl)) in
-      let holds : test ≡ true =
+      let holds : both (row_there (back_of first w D) far) (both (there 0 m source) (pixels_there D far (m * 8) lent)) ≡ true =
       both_hold _ _ row-there
       (both_hold _ _ (is-there 0 m source (omega (arith, length_part from (from + m - from) s (omega arith))))
       (pixels-there D far (m * 8) lent place.low place.high (omega (arith, far_back, length_part least extent_of xs in_list)))) in
       subst (λ (ys : List ℕ). Painted D w (image_ink (fg_ink first p) (bg_ink first (0 ∷ 0 ∷ 0 ∷ [])) (drop from s)) k (m * 8) xs ys)
-      (ap (λ (q : Pixel). run (row_bytes first (k * D) (w * D) (masked_by s from D q)) (k * D) (m * 8 * D) xs) (bytes_of_lem D p of)
-      ∙ sym
-      (in_part (row_bytes first far far (masked_by source 0 D (bytes_in p))) (row_bytes first (k * D) far (masked_by s from D (bytes_in p))) least extent_of far (m * 8 * D) xs part
-      holds in_list (omega (arith, far_back)) (same_bytes_lem (bytes_in p)) e
-      ∙ ap (λ (a : ℕ). run (row_bytes first (k * D) far (masked_by s from D (bytes_in p))) a (m * 8 * D) xs) at-is
-      ∙ far_is (bytes_in p)))
+      (sym
+      (in_part (row_bytes (back_of first w D) far (masked_by source 0 D p)) (row_bytes (back_of first w D) (k * D) (masked_by s from D p)) least extent_of far (m * 8 * D) xs part
+      holds in_list (omega (arith, far_back)) (same_bytes_lem p) e
+      ∙ ap (λ (a : ℕ). run (row_bytes (back_of first w D) (k * D) (masked_by s from D p)) a (m * 8 * D) xs) at-is))
       (rows-painted D w k (m * 8) xs place.low place.high place.fits first wide row s from p of)
 
 -- n pixels by one mask, which stands in a part of the stream, in the whole target
 pub few_masked : (D w k n : ℕ) (xs ys s : List ℕ) (from : ℕ) (first : Bool) → HasPlace D k n xs → 1 ≤ w → (first ≡ false → w ≤ k) → n ≤ 8 → from < length s
     → (p : Pixel) → OfDepth D p
-    → ys ≡ run_where (both (row_there first (pick first 0 (w * D)) (k * D)) (both (both (leb n 8) (there 0 1 (take (from + 1 - from) (drop from s)))) (pixels_there D (k * D) n xs)))
-    (row_bytes first (k * D) (pick first 0 (w * D)) (masked_by (take (from + 1 - from) (drop from s)) 0 D (bytes_in p))) (k * D) (n * D) xs
+    → ys ≡ run_where (both (row_there (back_of first w D) (k * D)) (both (both (leb n 8) (there 0 1 (take (from + 1 - from) (drop from s)))) (pixels_there D (k * D) n xs)))
+    (row_bytes (back_of first w D) (k * D) (masked_by (take (from + 1 - from) (drop from s)) 0 D p)) (k * D) (n * D) xs
     → Painted D w (image_ink (fg_ink first p) (bg_ink first (0 ∷ 0 ∷ 0 ∷ [])) (drop from s)) k n xs ys
 few_masked D w k n xs ys s from first place wide row few inside p of e =
     subst (λ (zs : List ℕ). Painted D w (image_ink (fg_ink first p) (bg_ink first (0 ∷ 0 ∷ 0 ∷ [])) (drop from s)) k n xs zs)
-    (ap (λ (q : Pixel). run (row_bytes first (k * D) (w * D) (masked_by s from D q)) (k * D) (n * D) xs) (bytes_of_lem D p of) ∙ sym (go first row e ∙ source_is first))
+    (sym (go first row e ∙ source_is first))
     (rows-painted D w k n xs place.low place.high place.fits first wide row s from p of)
   where
     one : List ℕ
@@ -256,18 +255,18 @@ few_masked D w k n xs ys s from first place wide row few inside p of e =
         (pixels-there D (k * D) n xs place.low place.high (omega (arith, place.fits)))
 
     go : (t : Bool) → (t ≡ false → w ≤ k)
-        → ys ≡ run_where (both (row_there t (pick t 0 (w * D)) (k * D)) (both (both (leb n 8) (there 0 1 one)) (pixels_there D (k * D) n xs)))
-        (row_bytes t (k * D) (pick t 0 (w * D)) (masked_by one 0 D (bytes_in p))) (k * D) (n * D) xs
-        → ys ≡ run (row_bytes t (k * D) (w * D) (masked_by one 0 D (bytes_in p))) (k * D) (n * D) xs
+        → ys ≡ run_where (both (row_there (back_of t w D) (k * D)) (both (both (leb n 8) (there 0 1 one)) (pixels_there D (k * D) n xs)))
+        (row_bytes (back_of t w D) (k * D) (masked_by one 0 D p)) (k * D) (n * D) xs
+        → ys ≡ run (row_bytes (back_of t w D) (k * D) (masked_by one 0 D p)) (k * D) (n * D) xs
     go true r f = rw there-all at f
     go false r f = rw (le-leb (w * D) (k * D) (mul-le-mul_right {m = w} {n = k} D (r refl)), there-all) at f
 
-    same_mask : (j : ℕ) → j < n * D → masked_by one 0 D (bytes_in p) j ≡ masked_by s from D (bytes_in p) j
-    same_mask j h = masked_source s (bytes_in p) from 1 D j place.low (omega (arith, mul-le-mul_right {m = n} {n = 8} D few))
+    same_mask : (j : ℕ) → j < n * D → masked_by one 0 D p j ≡ masked_by s from D p j
+    same_mask j h = masked_source s p from 1 D j place.low (omega (arith, mul-le-mul_right {m = n} {n = 8} D few))
 
-    source_is : (t : Bool) → run (row_bytes t (k * D) (w * D) (masked_by one 0 D (bytes_in p))) (k * D) (n * D) xs
-        ≡ run (row_bytes t (k * D) (w * D) (masked_by s from D (bytes_in p))) (k * D) (n * D) xs
-    source_is true = run_cong (bytes (masked_by one 0 D (bytes_in p))) (bytes (masked_by s from D (bytes_in p))) (k * D) (n * D) xs same_mask
+    source_is : (t : Bool) → run (row_bytes (back_of t w D) (k * D) (masked_by one 0 D p)) (k * D) (n * D) xs
+        ≡ run (row_bytes (back_of t w D) (k * D) (masked_by s from D p)) (k * D) (n * D) xs
+    source_is true = run_cong (bytes (masked_by one 0 D p)) (bytes (masked_by s from D p)) (k * D) (n * D) xs same_mask
     source_is false =
-        run_cong (xored (k * D) (w * D) (masked_by one 0 D (bytes_in p))) (xored (k * D) (w * D) (masked_by s from D (bytes_in p))) (k * D) (n * D) xs
-        (λ j h. ap (λ (b : ℕ). bit_xor (get_or (run (xored (k * D) (w * D) (masked_by one 0 D (bytes_in p))) (k * D) j xs) (k * D + j - w * D) 0) b) (same_mask j h))
+        run_cong (xored (k * D) (w * D) (masked_by one 0 D p)) (xored (k * D) (w * D) (masked_by s from D p)) (k * D) (n * D) xs
+        (λ j h. ap (λ (b : ℕ). bit_xor (get_or (run (xored (k * D) (w * D) (masked_by one 0 D p)) (k * D) j xs) (k * D + j - w * D) 0) b) (same_mask j h))

@@ -1,7 +1,11 @@
--- Laws of the functions that serve several kinds, by their numbers. Assumes nothing.
+-- Laws of the functions that serve several kinds. Assumes nothing.
 use mathlib.Core.Path.{◌≡◌, refl, sym, ◌∙◌, subst}
 use mathlib.Core.List.{List, [], ◌∷◌}
 use mathlib.Core.Bool.{Bool, true, false}
+use mathlib.Core.Logic.{◌⊎◌, inl, inr}
+use Rattle.rle.specs.declared.kind.Kind.{Kind as CodeKind}
+use Rattle.rle.specs.declared.kind.Kind.TheVariants as kinds
+use Rattle.rle.specs.Kinds.{kind_in, sets_foreground}
 use Prim.Native.Nat.{ℕ, ◌+◌, ◌*◌, ◌-◌, ◌/◌, ◌%◌, ◌≤◌, ◌<◌}
 use native.Mathlib.Nat.{add-zero}
 use native.Mathlib.Omega.{arith}
@@ -15,35 +19,52 @@ use Rattle.rle.specs.declared.paint.Mode.TheVariants.{AboveXor}
 use Rattle.rle.specs.declared.paint.Ink.{Ink as CodeInk}
 use Rattle.rle.specs.declared.plan.Plan.{Plan as CodePlan}
 use Rattle.base.specs.Picks.{pick}
-use Rattle.picture.specs.Sizes.{refusal, Frame}
-use Rattle.base.proofs.Tests.{by_test}
-use Rattle.definition.specs.Orders.{Kind, FgBgImage, SetFgBgImage, SpecialFgBg1, SpecialFgBg2, White, Black, NoOrder}
-use Rattle.definition.specs.Decode.{Ink, solid, fg_ink, bg_ink, mask_ink, State, order_of}
-use Rattle.definition.specs.Plan.{refused, Counts, counts, behind, with_operands, run_counts, counts_of, leaves_insert, foreground_by, image_ink, kind_ink, leaves, insert_in, foreground_in}
+use Rattle.picture.specs.Pixels.{Pixel, OfDepth}
+use Rattle.picture.specs.Sizes.{Frame}
+use Rattle.base.proofs.Tests.{by_test, apart}
+use Rattle.definition.specs.Orders.{FgBgImage, SetFgBgImage}
+use Rattle.definition.specs.Decode.{Ink, solid, fg_ink, bg_ink, State, order_of}
+use Rattle.definition.specs.Plan.{Counts, behind, with_operands, run_counts, counts_of, leaves_insert, new_foreground, foreground_by, image_ink, kind_ink, leaves, insert_in, foreground_in}
 use Rattle.rle.specs.Planning.{counts_in}
 use Rattle.rle.specs.Painting.{Paintable, Painted, ink_of, MaskInks}
-use Rattle.rle.specs.States.{frame_of, state_of, fg_of, bg_of, with_fg}
+use Rattle.rle.specs.States.{frame_of, state_of, fg_of, bg_of, with_fg, finished_of}
 use Rattle.rle.specs.Orders.{Ready, Executes}
 use Rattle.rle.proofs.Painting.{painted_as}
 use Rattle.definition.proofs.Masks.{image-masks}
 use Rattle.definition.proofs.Planned.{ink_by, run-most}
 use Rattle.rle.proofs.Inks.{row-reach, foreground_of_depth, state-masks, fg-is, bg-is}
-use Rattle.rle.proofs.Orders.{paintable, within, Leaves}
+use Rattle.rle.proofs.Orders.{paintable, within, Leaves, executes_finished}
 
-pub executes_kind : {f : Frame} {src before after : List ℕ} {s : CodeState} {r : Stepped} (n : ℕ) {k l : Kind} → k ≡ l
-    → Executes f src before after s r (order_of f k n) → Executes f src before after s r (order_of f l n)
-executes_kind {f} {src} {before} {after} {s} {r} n e d = subst (λ (x : Kind). Executes f src before after s r (order_of f x n)) e d
+-- only a set-foreground order has a foreground of its own
+pub foreground_is : (D : ℕ) (k : CodeKind) (p : Pixel) (xs : List ℕ) → foreground_by D (kind_in k) p xs ≡ pick (sets_foreground k) (new_foreground D p xs) p
+unfolding foreground_in leaves
+foreground_is D kinds.BgRun p xs = refl
+foreground_is D kinds.FgRun p xs = refl
+foreground_is D kinds.FgBgImage p xs = refl
+foreground_is D kinds.ColorRun p xs = refl
+foreground_is D kinds.ColorImage p xs = refl
+foreground_is D kinds.SetFgRun p xs = refl
+foreground_is D kinds.SetFgBgImage p xs = refl
+foreground_is D kinds.DitheredRun p xs = refl
+foreground_is D kinds.SpecialFgBg1 p xs = refl
+foreground_is D kinds.SpecialFgBg2 p xs = refl
+foreground_is D kinds.White p xs = refl
+foreground_is D kinds.Black p xs = refl
+foreground_is D kinds.NoOrder p xs = refl
 
 -- a special fg/bg image has one of two masks
-pub special_counts : (D n a R : ℕ) (t : Bool) → run_counts D n R ≡ counts_of D (pick t SpecialFgBg1 SpecialFgBg2) n a R
-unfolding counts_of
-special_counts D n a R true = refl
-special_counts D n a R false = refl
+abbrev pub IsSpecial : CodeKind → Type 0
+IsSpecial k = (k ≡ kinds.SpecialFgBg1) ⊎ (k ≡ kinds.SpecialFgBg2)
 
-pub special_leaves : (D : ℕ) (s : CodeState) (xs : List ℕ) (t : Bool) → Leaves D (pick t SpecialFgBg1 SpecialFgBg2) s xs s false
+pub special_counts : (D n a R : ℕ) {k : CodeKind} → IsSpecial k → run_counts D n R ≡ counts_of D (kind_in k) n a R
+unfolding counts_of
+special_counts D n a R (inl e) = rw e
+special_counts D n a R (inr e) = rw e
+
+pub special_leaves : (D : ℕ) (s : CodeState) (xs : List ℕ) {k : CodeKind} → IsSpecial k → Leaves D (kind_in k) s xs s false
 unfolding foreground_in insert_in leaves
-special_leaves D s xs true = record { state = refl; insert = refl }
-special_leaves D s xs false = record { state = refl; insert = refl }
+special_leaves D s xs (inl e) = rw e (record { state = refl; insert = refl })
+special_leaves D s xs (inr e) = rw e (record { state = refl; insert = refl })
 
 pub special_few : (D R : ℕ) (p : CodePlan) → counts_in p ≡ run_counts D 8 R → p.pixels ≤ 8
 special_few D R p e = subst (λ (c : Counts). c.pixels ≤ 8) (sym e) (run-most D 8 R)
@@ -54,40 +75,60 @@ unfolding run_counts
 special_whole D R p e =
     subst (λ (c : Counts). c.pixels / 8 * 8 ≡ c.pixels) (sym e) (by_test (λ (c : Counts). c.pixels / 8 * 8 ≡ c.pixels) (leb 8 R) (λ _. omega arith) (λ _. omega arith))
 
-pub special_ink : (f : Frame) (s : State) (t : Bool) (j : ℕ) → j < 8
-    → image_ink (fg_ink s.first_row s.foreground) (bg_ink s.first_row f.black) (pick t 0x03 0x05 ∷ []) j ≡ ink_by f (pick t SpecialFgBg1 SpecialFgBg2) s j
+-- the mask that the code has
+pub special_ink : (f : Frame) (s : State) {k : CodeKind} → IsSpecial k → (m : ℕ) → (k ≡ kinds.SpecialFgBg1 → m ≡ 0x03) → (k ≡ kinds.SpecialFgBg2 → m ≡ 0x05)
+    → (j : ℕ) → j < 8 → image_ink (fg_ink s.first_row s.foreground) (bg_ink s.first_row f.black) (m ∷ []) j ≡ ink_by f (kind_in k) s j
 unfolding image_ink kind_ink foreground_in leaves
-special_ink f s t j few =
+special_ink f s (inl e) m first second j few =
     let q : j / 8 ≡ 0 = omega arith in
     let r : j % 8 ≡ j = omega arith in
-    rw (q, r) (go t)
-  where
-    go : (t : Bool) → mask_ink (fg_ink s.first_row s.foreground) (bg_ink s.first_row f.black) (pick t 0x03 0x05) j ≡ ink_by f (pick t SpecialFgBg1 SpecialFgBg2) s j
-    go true = refl
-    go false = refl
+    rw (q, r, first e, e)
+special_ink f s (inr e) m first second j few =
+    let q : j / 8 ≡ 0 = omega arith in
+    let r : j % 8 ≡ j = omega arith in
+    rw (q, r, second e, e)
 
 -- white, black, or no order
-pub pixel-leaves : (D : ℕ) (s : CodeState) (xs : List ℕ) (t u : Bool) → Leaves D (pick t NoOrder (pick u White Black)) s xs s false
+abbrev pub IsPixel : CodeKind → Type 0
+IsPixel k = (k ≡ kinds.White) ⊎ ((k ≡ kinds.Black) ⊎ (k ≡ kinds.NoOrder))
+
+pub pixel-leaves : (D : ℕ) (s : CodeState) (xs : List ℕ) {k : CodeKind} → IsPixel k → Leaves D (kind_in k) s xs s false
 unfolding foreground_in insert_in leaves
-pixel-leaves D s xs true u = record { state = refl; insert = refl }
-pixel-leaves D s xs false true = record { state = refl; insert = refl }
-pixel-leaves D s xs false false = record { state = refl; insert = refl }
+pixel-leaves D s xs (inl e) = rw e (record { state = refl; insert = refl })
+pixel-leaves D s xs (inr (inl e)) = rw e (record { state = refl; insert = refl })
+pixel-leaves D s xs (inr (inr e)) = rw e (record { state = refl; insert = refl })
+
+-- no matter what is left of the stream
+pub pixel_counts : (D n a R : ℕ) {k : CodeKind} → IsPixel k → counts_of D (kind_in k) n 0 R ≡ counts_of D (kind_in k) n a R
+unfolding counts_of
+pixel_counts D n a R (inl e) = rw e
+pixel_counts D n a R (inr (inl e)) = rw e
+pixel_counts D n a R (inr (inr e)) = rw e
+
+-- x: the color that the code has
+pub pixel-depth : (D : ℕ) {w b x : Pixel} {k : CodeKind} → IsPixel k → OfDepth D w → OfDepth D b → (k ≡ kinds.White → x ≡ w) → ((k ≡ kinds.White → ⊥) → x ≡ b) → OfDepth D x
+pixel-depth D (inl e) p q white black = rw (white e) p
+pixel-depth D (inr (inl e)) p q white black = rw (black (λ u. apart cc)) q
+pixel-depth D (inr (inr e)) p q white black = rw (black (λ u. apart cc)) q
 
 -- at most one pixel, white or black
-module _ (f : Frame) (R : ℕ) (t : Bool) (p : CodePlan) (plans : counts_in p ≡ pick t (counts 0 0 (refused (refusal 5 0 0))) (run_counts f.bytes 1 R)) where
-  pub pixel-few : p.pixels ≤ 1
-  pixel-few =
-      subst (λ (c : Counts). c.pixels ≤ 1) (sym plans) (by_test (λ (c : Counts). c.pixels ≤ 1) t (λ _. omega arith) (λ _. run-most f.bytes 1 R))
+module _ (f : Frame) (a R : ℕ) (p : CodePlan) where
+  pub pixel-few : {k : CodeKind} → IsPixel k → counts_in p ≡ counts_of f.bytes (kind_in k) 1 a R → p.pixels ≤ 1
+  unfolding counts_of
+  pixel-few (inl e) plans = subst (λ (c : Counts). c.pixels ≤ 1) (sym plans) (rw e (run-most f.bytes 1 R))
+  pixel-few (inr (inl e)) plans = subst (λ (c : Counts). c.pixels ≤ 1) (sym plans) (rw e (run-most f.bytes 1 R))
+  pixel-few (inr (inr e)) plans = subst (λ (c : Counts). c.pixels ≤ 1) (sym plans) (rw e (omega arith))
 
-  pub pixel_ink : (s : State) (u : Bool) (j : ℕ) → j < p.pixels → solid (pick u f.white f.black) ≡ ink_by f (pick t NoOrder (pick u White Black)) s j
-  unfolding kind_ink
-  pixel_ink s u j h = go t u (subst (λ (c : Counts). j < c.pixels) plans h)
-    where
-      go : (t u : Bool) → j < (pick t (counts 0 0 (refused (refusal 5 0 0))) (run_counts f.bytes 1 R)).pixels
-          → solid (pick u f.white f.black) ≡ ink_by f (pick t NoOrder (pick u White Black)) s j
-      go true u h = absurd (omega arith)
-      go false true h = refl
-      go false false h = refl
+  -- x: the color that the code has
+  pub pixel_ink : (s : State) {k : CodeKind} → IsPixel k → counts_in p ≡ counts_of f.bytes (kind_in k) 1 a R
+      → (x : Pixel) → (k ≡ kinds.White → x ≡ f.white) → ((k ≡ kinds.White → ⊥) → x ≡ f.black)
+      → (j : ℕ) → j < p.pixels → solid x ≡ ink_by f (kind_in k) s j
+  unfolding kind_ink counts_of
+  pixel_ink s (inl e) plans x white black j h = rw (white e, e)
+  pixel_ink s (inr (inl e)) plans x white black j h = rw (black (λ u. apart cc), e)
+  pixel_ink s (inr (inr e)) plans x white black j h =
+      let n : j < 0 = subst (λ (c : Counts). j < c.pixels) (rw e at plans) h in
+      absurd (omega arith)
 
 -- an fg/bg image, with a foreground of its own or without
 pub image-leaves : (t : Bool) → false ≡ leaves_insert (pick t SetFgBgImage FgBgImage)
@@ -135,3 +176,11 @@ module _ (f : CodeFrame) (src dst : List ℕ) (s : CodeState) (t : Bool) {u : Co
             (paintable dst p.pixels ready w.pixels _ (row-reach AboveXor inv) (foreground_of_depth ready.frame inv.foreground (drop s.pos src) (leaves k))),
         (rw sized (omega (arith, enough)), state-masks u f ready.frame.black fg bg),
       )
+
+  pub image_executes : {n : ℕ} → Ready (length dst) (frame_of f) s n → s.pos ≤ length src → (p : CodePlan)
+      → counts_in p ≡ counts_of f.depth.bytes (pick t SetFgBgImage FgBgImage) n (length src - s.pos) (f.total - s.pixels)
+      → {r : Stepped} {after : List ℕ} → r ≡ finished_of u p false
+      → Painted f.depth.bytes f.width (image_ink (ink_of i) (ink_of j) (drop (s.pos + size) src)) s.pixels p.pixels dst after
+      → Executes (frame_of f) src dst after s r (order_of (frame_of f) (pick t SetFgBgImage FgBgImage) n)
+  image_executes ready place p plans is painted =
+      executes_finished _ _ _ ready place _ p plans (record { state = state; insert = image-leaves t }) is (image_inks _ _ painted)

@@ -10,18 +10,18 @@ use Rattle.rle.specs.declared.state.Frame.{Frame as CodeFrame}
 use Rattle.rle.specs.declared.state.State.{State as CodeState}
 use Rattle.rle.specs.declared.head.OrderHead.{OrderHead}
 use Rattle.rle.specs.declared.state.Stepped.{Stepped}
-use Rattle.rle.specs.declared.plan.Ending.{Ending as CodeEnding}
-use Rattle.rle.specs.declared.plan.Ending.TheVariants.{Complete, Refused}
+use Rattle.std.specs.Prelude.{Ok, Err}
+use Rattle.rle.specs.declared.head.NoLength.{NoLength}
 use Rattle.picture.specs.declared.outcome.RleError.{RleError}
 use Rattle.picture.specs.Sizes.{Frame}
 use Rattle.definition.specs.Orders.{Head, head_of}
-use Rattle.definition.specs.Codes.{kind_of}
+use Rattle.rle.specs.Kinds.{kind_in}
 use Rattle.definition.specs.Decode.{then_run, order_of, order_from, with_left, end_first_row, step, start}
 use Rattle.definition.specs.Plan.{end_with}
 use Rattle.definition.proofs.Runs.{continues-start, continues_end, continues-refused, continues_on, continues_as}
 use Rattle.picture.specs.Pixels.{pixels_of}
 use Rattle.rle.specs.Heads.{HeadAt, RefusedAt}
-use Rattle.rle.specs.Planning.{ending_in}
+use Rattle.rle.specs.Planning.{CodeEnding, ending_in}
 use Rattle.rle.specs.States.{Framed, Invariant, frame_of, state_of, first_row_ended, at_pos, refused_in, start_of}
 use Rattle.rle.specs.Orders.{Executes, BetweenOrders, Decodes, decoded_to, DecodesTo}
 use Rattle.rle.proofs.Painting.{rest_later}
@@ -45,7 +45,7 @@ module _ (f : CodeFrame) (src dst : List ℕ) (s : CodeState) (begun : first_row
 
   -- its head was read
   pub order_executes : {o : OrderHead} → HeadAt src s.pos o → (after : List ℕ) (r : Stepped)
-      → Executes (frame_of f) src dst after (at_pos s o.next) r (order_of (frame_of f) (kind_of o.kind) o.run_length)
+      → Executes (frame_of f) src dst after (at_pos s o.next) r (order_of (frame_of f) (kind_in o.kind) o.run_length)
       → Executes (frame_of f) src dst after s r (step (frame_of f))
   unfolding order_from with_left
   order_executes at after r d =
@@ -61,15 +61,15 @@ module _ (f : CodeFrame) (src dst : List ℕ) (s : CodeState) (begun : first_row
 
   -- and the order reads on
   pub order_read : {o : OrderHead} → HeadAt src s.pos o → (after : List ℕ) (r : Stepped)
-      → Executes (frame_of f) src dst after (at_pos s o.next) r (order_of (frame_of f) (kind_of o.kind) o.run_length)
+      → Executes (frame_of f) src dst after (at_pos s o.next) r (order_of (frame_of f) (kind_in o.kind) o.run_length)
       → Executes (frame_of f) src dst after s r (step (frame_of f)) × (s.pos < r.state.pos) × (s.pos < length src)
   order_read at after r d = (order_executes at after r d, omega (arith, at.reads, d.reads), omega (arith, at.reads, at.place))
 
   -- its head was refused
-  pub order-refused : {x : RleError} {next : ℕ} → RefusedAt src s.pos x next → Invariant (frame_of f) s
-      → Executes (frame_of f) src dst dst s (refused_in x (at_pos s next)) (step (frame_of f))
+  pub order-refused : {x : NoLength} → RefusedAt src s.pos x → Invariant (frame_of f) s
+      → Executes (frame_of f) src dst dst s (refused_in x.error (at_pos s x.next)) (step (frame_of f))
   unfolding order_from with_left end_with
-  order-refused {next = next} at invariant =
+  order-refused {x = x} at invariant =
       record {
         is = step_from _ at.is;
         rest = refl;
@@ -77,7 +77,7 @@ module _ (f : CodeFrame) (src dst : List ℕ) (s : CodeState) (begun : first_row
         reads = omega (arith, at.reads);
         place = at.place;
         mark = refl;
-        invariant = invariant_at next invariant;
+        invariant = invariant_at x.next invariant;
       }
 
 -- ---- the whole stream
@@ -93,7 +93,7 @@ between_start f src dst frame =
       continues = continues-start (frame_of f) src;
     }
 
-pub between_end : (f : Frame) (src dst₀ dst : List ℕ) (r : Stepped) → BetweenOrders f src dst₀ dst r.state → r.ending ≡ Complete → length src ≤ r.state.pos
+pub between_end : (f : Frame) (src dst₀ dst : List ℕ) (r : Stepped) → BetweenOrders f src dst₀ dst r.state → r.ending ≡ Ok tt → length src ≤ r.state.pos
     → Decodes f src dst₀ dst r
 unfolding then_run end_with
 between_end f src dst₀ dst r between p h =
@@ -116,7 +116,7 @@ module _ (f : Frame) (src dst₀ dst : List ℕ) (s : CodeState) (between : Betw
       rest : drop (r.state.pixels * f.bytes) after ≡ drop (r.state.pixels * f.bytes) dst₀
       rest = executes.rest ∙ rest_later f.bytes s.pixels r.state.pixels dst dst₀ executes.grows between.rest
 
-      pub decodes_refused : (e : RleError) → r.ending ≡ Refused e → Decodes f src dst₀ after r
+      pub decodes_refused : (e : RleError) → r.ending ≡ Err e → Decodes f src dst₀ after r
       decodes_refused e p =
           record {
             is = continues-refused between.continues more (ending_in r.ending) (state_of f src after r.state) executes.is (ap ending_in p);
@@ -124,10 +124,10 @@ module _ (f : Frame) (src dst₀ dst : List ℕ) (s : CodeState) (between : Betw
             invariant = executes.invariant;
           }
 
-      pub between_refused : (limit : ℕ) (e : RleError) → r.ending ≡ Refused e → decoded_to r.ending limit f src dst₀ after r
+      pub between_refused : (limit : ℕ) (e : RleError) → r.ending ≡ Err e → decoded_to r.ending limit f src dst₀ after r
       between_refused limit e p = subst (λ (a : CodeEnding). decoded_to a limit f src dst₀ after r) (sym p) (decodes_refused e p)
 
-      pub between_on : r.ending ≡ Complete → s.pos < r.state.pos → length after ≡ length dst → BetweenOrders f src dst₀ after r.state
+      pub between_on : r.ending ≡ Ok tt → s.pos < r.state.pos → length after ≡ length dst → BetweenOrders f src dst₀ after r.state
       between_on p h k =
           record {
             invariant = executes.invariant;
@@ -160,14 +160,14 @@ module _ (f : Frame) (src dst₀ dst : List ℕ) (s : CodeState) (between : Betw
       → drop (r.state.pixels * f.bytes) after ≡ drop (r.state.pixels * f.bytes) dst₀
   further e = e ∙ rest_later f.bytes s.pixels r.state.pixels dst dst₀ to.grows between.rest
 
-  pub decoded-refused : (e : RleError) → r.ending ≡ Refused e → Decodes f src dst₀ after r
+  pub decoded-refused : (e : RleError) → r.ending ≡ Err e → Decodes f src dst₀ after r
   decoded-refused e p =
       let g : Decodes f src dst after r = subst (λ (a : CodeEnding). decoded_to a limit f src dst after r) p to.decoded in
       record { is = g.is; rest = further g.rest; invariant = g.invariant }
 
-  pub decoded_on : r.ending ≡ Complete → BetweenOrders f src dst₀ after r.state × (r.state.pos < length src → limit ≤ r.state.pixels)
+  pub decoded_on : r.ending ≡ Ok tt → BetweenOrders f src dst₀ after r.state × (r.state.pos < length src → limit ≤ r.state.pixels)
   decoded_on p =
-      let g : decoded_to Complete limit f src dst after r = (rw p at to).decoded in (
+      let g : decoded_to (Ok tt) limit f src dst after r = (rw p at to).decoded in (
         record {
           invariant = g.0.invariant;
           place = g.0.place;

@@ -7,13 +7,12 @@ use lib.Seq.{take_at, drop_at}
 use lib.Dec.{eqb}
 use borrow.Author.Tests.{le-ltb}
 use Rattle.rle.specs.declared.report.Report.{Report}
-use Rattle.picture.specs.declared.outcome.Outcome.{Outcome}
-use Rattle.picture.specs.declared.outcome.Outcome.TheVariants.{Ok, Err}
+use Rattle.std.specs.Prelude.{Ok, Err}
 use Rattle.picture.specs.declared.outcome.RleError.TheVariants.{InvalidBpp, EmptyImage, DimensionsTooLarge, BufferTooShort, BadOrderCode, NotEnoughBytes, InvalidImageSize, UnexpectedZeroLength}
 use Rattle.picture.specs.Pixels.{bytes_of}
 use Rattle.picture.specs.Sizes.{Refusal, Checked, refused, accepted, checked, with_space}
 use Rattle.definition.specs.Decode.{Result, of_checked, result, result_in, Summary}
-use Rattle.picture.specs.Outcomes.{refusal_in}
+use Rattle.picture.specs.Outcomes.{Outcome, refusal_in}
 use Rattle.rle.specs.Report.{Agrees, Decompresses}
 use Rattle.rle.specs.Guarantees.{space_for, HasSpace, Defined, NoOldByte, SameDecoding, is_ok}
 

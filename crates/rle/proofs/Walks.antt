@@ -6,23 +6,23 @@ use mathlib.Core.List.{List}
 use Prim.Native.Nat.{ℕ, ◌+◌, ◌-◌, ◌≤◌, ◌<◌, zero-le}
 use native.Mathlib.Nat.{le_refl, add-zero, sub-zero}
 use native.Mathlib.Omega.{arith}
-use lib.Dec.{ltb, eqb}
+use lib.Dec.{ltb}
 use lib.ListN.{length, drop, length-drop, drop_of_length-le}
 use lib.Seq.{drop-drop, get_or-drop}
 use Rattle.base.specs.Picks.{pick}
 use Rattle.rle.specs.declared.head.OrderHead.{OrderHead}
-use Rattle.rle.specs.declared.plan.Ending.TheVariants.{Complete, Refused}
+use Rattle.std.specs.Prelude.{Some, None, Ok, Err}
+use Rattle.rle.specs.declared.head.NoLength.{NoLength}
 use Rattle.rle.specs.declared.plan.Plan.{Plan as CodePlan}
 use Rattle.rle.specs.declared.record.OrderRecord.{OrderRecord}
 use Rattle.rle.specs.declared.state.Frame.{Frame as CodeFrame}
-use Rattle.rle.specs.declared.walk.Stop.TheVariants as stop
 use Rattle.rle.specs.declared.walk.Walk.{Walk}
 use Rattle.picture.specs.declared.outcome.RleError.{RleError}
 use Rattle.picture.specs.Sizes.{Frame}
 use Rattle.picture.specs.Outcomes.{refusal_of}
-use Rattle.definition.specs.Codes.{kind_of}
+use Rattle.rle.specs.Kinds.{kind_in}
 use Rattle.definition.specs.Decode.{State, then_run, step, run}
-use Rattle.definition.specs.Plan.{Ending, complete, counts_of, insert_after, orders_after, Progress, progress, progress_of, plan_by, plan_from, past_first_row, plan_of, plan_record, end_with, plan_state, plan_step}
+use Rattle.definition.specs.Plan.{Ending, complete, counts_of, leaves_insert, insert_after, orders_after, Progress, progress, progress_of, plan_by, plan_from, past_first_row, plan_of, plan_record, end_with, plan_state, plan_step}
 use Rattle.definition.specs.Records.{orders_from, nth}
 use Rattle.definition.specs.Runs.{Continues}
 use Rattle.definition.proofs.Planned.{step_planned, progress_planned, Within, kind-within}
@@ -32,9 +32,8 @@ use Rattle.rle.specs.Heads.{HeadAt, RefusedAt}
 use Rattle.rle.specs.Planning.{counts_in, ending_in}
 use Rattle.rle.specs.Records.{record_in}
 use Rattle.rle.specs.States.{frame_of}
-use Rattle.rle.specs.Walking.{record_at, stopped_at, ReachesOrder, RunsOut, WalksOrders}
+use Rattle.rle.specs.Walking.{record_at, ReachesOrder, RunsOut, WalksOrders}
 use Rattle.rle.specs.Walks.{StandsFor}
-use Rattle.rle.proofs.Numbers.{insert-number}
 
 -- ---- progress
 
@@ -85,11 +84,11 @@ insert_at f w = pick w.first_row (pick (ltb w.pixels f.width) w.insert false) w.
 module _ (f : CodeFrame) (src : List ℕ) (w : Walk) (within : w.pixels ≤ f.total) where
   -- its head was read
   module _ {o : OrderHead} (at : HeadAt src w.pos o) (p : CodePlan)
-      (plans : counts_in p ≡ counts_of f.depth.bytes (kind_of o.kind) o.run_length (length src - o.next) (f.total - w.pixels)) where
+      (plans : counts_in p ≡ counts_of f.depth.bytes (kind_in o.kind) o.run_length (length src - o.next) (f.total - w.pixels)) where
     pub enough : Within (length src - o.next) (f.total - w.pixels) (counts_in p)
-    enough = rw plans (kind-within f.depth.bytes (kind_of o.kind) o.run_length (length src - o.next) (f.total - w.pixels) at.some)
+    enough = rw plans (kind-within f.depth.bytes (kind_in o.kind) o.run_length (length src - o.next) (f.total - w.pixels) at.some)
 
-    pub order-refused : (e : RleError) → p.ending ≡ Refused e → RefusesOrder (frame_of f) src w e (w.pixels + p.pixels)
+    pub order-refused : (e : RleError) → p.ending ≡ Err e → RefusesOrder (frame_of f) src w e (w.pixels + p.pixels)
     unfolding plan_of plan_from plan_by past_first_row orders_after
     order-refused e is =
         record {
@@ -100,14 +99,14 @@ module _ (f : CodeFrame) (src : List ℕ) (w : Walk) (within : w.pixels ≤ f.to
           within = omega (arith, enough.pixels);
         }
 
-    pub order-completed : p.ending ≡ Complete
+    pub order-completed : p.ending ≡ Ok tt
         → CompletesOrder (frame_of f) src w
-        (record { pos = o.next + p.read; pixels = w.pixels + p.pixels; insert = eqb o.kind 0; first_row = mark_at f w })
+        (record { pos = o.next + p.read; pixels = w.pixels + p.pixels; insert = leaves_insert (kind_in o.kind); first_row = mark_at f w })
     unfolding plan_of plan_from plan_by past_first_row insert_after orders_after
     order-completed is =
         record {
           ending = λ k. rw (at.is, length-drop, ← plans) (ap ending_in (sym is));
-          after = λ k. rw (at.is, length-drop, ← plans, is, drop-drop, insert-number);
+          after = λ k. rw (at.is, length-drop, ← plans, is, drop-drop);
           reads = omega (arith, at.reads);
           place = omega (arith, enough.read, at.place);
           some = omega (arith, enough.some (ap ending_in is));
@@ -117,10 +116,10 @@ module _ (f : CodeFrame) (src : List ℕ) (w : Walk) (within : w.pixels ≤ f.to
     -- its record is the plan's
     pub record_walked : (k : ℕ) → record_in (record_at o p.pixels (mark_at f w) (insert_at f w)) ≡ plan_record (plan_of (frame_of f) (progress_in src k w))
     unfolding plan_record plan_of plan_from plan_by past_first_row
-    record_walked k = rw (at.is, length-drop, ← plans, get_or-drop, add-zero, ← at.header, at.stands, insert-number)
+    record_walked k = rw (at.is, length-drop, ← plans, get_or-drop, add-zero, ← at.header, at.stands)
 
   -- its head was refused
-  pub head-refused : {e : RleError} {next : ℕ} → RefusedAt src w.pos e next → RefusesOrder (frame_of f) src w e w.pixels
+  pub head-refused : {r : NoLength} → RefusedAt src w.pos r → RefusesOrder (frame_of f) src w r.error w.pixels
   unfolding plan_of plan_from plan_by past_first_row orders_after
   head-refused at =
       record {
@@ -156,7 +155,7 @@ module _ {f : Frame} {src : List ℕ} {first : State} {n k : ℕ} {w : Walk} (le
   unfolding progress_of
   pixels_here = ap (λ (m : Progress). m.pixels) leads.reached
 
-  leads_end : length src ≤ w.pos → RunsOut f first n Complete w.pixels k
+  leads_end : length src ≤ w.pos → RunsOut f first n (Ok tt) w.pixels k
   unfolding then_run end_with
   leads_end h =
       let e = here ∙ drop_of_length-le src h in
@@ -179,7 +178,7 @@ module _ {f : Frame} {src : List ℕ} {first : State} {n k : ℕ} {w : Walk} (le
   more_here : w.pos < length src → 0 < length leads.state.left
   more_here more = rw (here, length-drop) (omega arith)
 
-  leads_refused : {e : RleError} {pixels : ℕ} → RefusesOrder f src w e pixels → RunsOut f first n (Refused e) pixels k
+  leads_refused : {e : RleError} {pixels : ℕ} → RefusesOrder f src w e pixels → RunsOut f first n (Err e) pixels k
   unfolding progress_of plan_state
   leads_refused {e} refuses =
       let is = next-is (Ending.refused (refusal_of e)) (refuses.ending leads.state.orders) in
@@ -268,7 +267,7 @@ walked_start f src n w within =
     }
 
 module _ {f : Frame} {src : List ℕ} {from : Walk} {n k : ℕ} {w : Walk} (walked : WalkedTo f src from n k w) where
-  pub walked_end : length src ≤ w.pos → WalksOrders f src from n (stopped_at stop.End w k)
+  pub walked_end : length src ≤ w.pos → WalksOrders f src from n (record { stop = Ok None; walk = w; orders = k })
   walked_end h =
       record {
         within = omega (arith, walked.within, walked.counted);
@@ -276,7 +275,7 @@ module _ {f : Frame} {src : List ℕ} {from : Walk} {n k : ℕ} {w : Walk} (walk
       }
 
   pub walked_refused : {e : RleError} {v : Walk} → RefusesOrder f src w e v.pixels
-      → WalksOrders f src from n (stopped_at (stop.Refused e) v k)
+      → WalksOrders f src from n (record { stop = Err e; walk = v; orders = k })
   walked_refused refuses =
       record {
         within = omega (arith, walked.within, walked.counted);
@@ -285,7 +284,7 @@ module _ {f : Frame} {src : List ℕ} {from : Walk} {n k : ℕ} {w : Walk} (walk
 
   module _ {v : Walk} (completes : CompletesOrder f src w v) where
     pub walked_order : n < k + 1 → (x : OrderRecord) → ((j : ℕ) → record_in x ≡ plan_record (plan_of f (progress_in src j w)))
-        → WalksOrders f src from n (stopped_at (stop.Order x) v (k + 1))
+        → WalksOrders f src from n (record { stop = Ok (Some x); walk = v; orders = k + 1 })
     walked_order now x told =
         record {
           within = omega (arith, walked.counted, completes.some, completes.within);

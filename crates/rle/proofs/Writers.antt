@@ -16,6 +16,7 @@ use Rattle.picture.proofs.Pixels.{first_pixel_cong, get_or-first_pixel, zeros_of
 use Rattle.definition.specs.Decode.{Ink, solid, above, above_xor, color, paint, pixel_above, fg_ink, bg_ink, mask_ink, dither_ink}
 use Rattle.definition.specs.Plan.{image_ink}
 use Rattle.byte_runs.specs.Runs as runs
+use Rattle.std.specs.Prelude.{None, Some}
 use Rattle.byte_runs.specs.Runs.{run, taken, turn, bytes, xored, pair_of, inked, masked_by, row_bytes}
 use Rattle.byte_runs.proofs.Runs.{Backward, run_settled}
 use Rattle.byte_runs.proofs.Blocks.{backward_above}
@@ -250,7 +251,7 @@ module _ (D w k n : ℕ) (xs : List ℕ) (low : 1 ≤ D) (high : D ≤ 3) (fits 
   -- by masks in whichever row
   pub rows-painted : (first : Bool) → 1 ≤ w → (first ≡ false → w ≤ k) → (s : List ℕ) (from : ℕ) (p : Pixel) → OfDepth D p
       → Painted D w (image_ink (fg_ink first p) (bg_ink first (0 ∷ 0 ∷ 0 ∷ [])) (drop from s)) k n xs
-      (run (row_bytes first (k * D) (w * D) (masked_by s from D p)) (k * D) (n * D) xs)
+      (run (row_bytes (pick first None (Some (w * D))) (k * D) (masked_by s from D p)) (k * D) (n * D) xs)
   unfolding fg_ink bg_ink
   rows-painted true wide row s from p of = first-painted s from p of
   rows-painted false wide row s from p of = later_painted wide (row refl) s from p of

@@ -1,9 +1,8 @@
 -- What the contract of `decompress` amounts to, over all streams, depths, sizes and targets. The theorems are in
 -- proofs/Theorems.antt; the crate two_targets has the second of them as the contract of two calls, and two_decoders the third.
-use Rattle.std.specs.Prelude.{◌≡◌, List, Bool, true, false, ℕ, ◌*◌, ◌≤◌, length, take, drop}
+use Rattle.std.specs.Prelude.{◌≡◌, List, Ok, Err, Bool, true, false, ℕ, ◌*◌, ◌≤◌, length, take, drop}
 use Rattle.rle.specs.declared.report.Report.{Report}
-use Rattle.picture.specs.declared.outcome.Outcome.{Outcome}
-use Rattle.picture.specs.declared.outcome.Outcome.TheVariants.{Ok, Err}
+use Rattle.picture.specs.Outcomes.{Outcome}
 use Rattle.picture.specs.Pixels.{bytes_of}
 use Rattle.picture.specs.Sizes.{Checked, refused, accepted, checked}
 use Rattle.definition.specs.Decode.{result, summary_of}

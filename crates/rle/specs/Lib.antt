@@ -1,6 +1,7 @@
 pub mod Report
 pub mod Guarantees
 pub mod Stored
+pub mod Kinds
 pub mod Records
 pub mod Heads
 pub mod Planning

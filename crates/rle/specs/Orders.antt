@@ -1,14 +1,12 @@
 -- What the orders and the loop over them promise: the definition's steps, and nothing past the painted pixels changed.
-use Rattle.std.specs.Prelude.{◌≡◌, List, ℕ, ◌*◌, ◌≤◌, ◌<◌, length, drop}
+use Rattle.std.specs.Prelude.{◌≡◌, List, Ok, Err, ℕ, ◌*◌, ◌≤◌, ◌<◌, length, drop}
 use Rattle.picture.specs.Sizes.{Frame}
 use Rattle.definition.specs.Decode.{State, Step, Run, ended, then_run, decode}
 use Rattle.definition.specs.Plan.{end_with}
 use Rattle.definition.specs.Runs.{Continues}
-use Rattle.rle.specs.declared.plan.Ending.{Ending as CodeEnding}
-use Rattle.rle.specs.declared.plan.Ending.TheVariants.{Complete, Refused}
 use Rattle.rle.specs.declared.state.State.{State as CodeState}
 use Rattle.rle.specs.declared.state.Stepped.{Stepped}
-use Rattle.rle.specs.Planning.{ending_in}
+use Rattle.rle.specs.Planning.{CodeEnding, ending_in}
 use Rattle.rle.specs.States.{state_of, Framed, Invariant}
 
 -- an order of run length n may come in the state s, with a target of `given` bytes
@@ -55,9 +53,9 @@ pub record Decodes (f : Frame) (src before after : List ℕ) (r : Stepped) : Typ
 
 -- the stream is decoded from the state s until `limit` pixels are painted: below the limit only the stream's end or its refusal ends it
 abbrev pub decoded_to : CodeEnding → ℕ → Frame → List ℕ → List ℕ → List ℕ → Stepped → Type 0
-decoded_to Complete limit f src before after r =
+decoded_to (Ok u) limit f src before after r =
     BetweenOrders f src before after r.state × (r.state.pixels < limit → length src ≤ r.state.pos)
-decoded_to (Refused e) limit f src before after r = Decodes f src before after r
+decoded_to (Err e) limit f src before after r = Decodes f src before after r
 
 pub record DecodesTo (limit : ℕ) (f : Frame) (src before after : List ℕ) (s : CodeState) (r : Stepped) : Type 0 where
   pub grows : s.pixels ≤ r.state.pixels

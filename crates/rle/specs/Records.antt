@@ -1,10 +1,10 @@
 -- What a record of the code's says of an order.
 use Rattle.definition.specs.Orders.{Place, nowhere, in_header, in_byte, in_two_bytes}
-use Rattle.definition.specs.Codes.{kind_of}
 use Rattle.definition.specs.Records.{Record}
 use Rattle.rle.specs.declared.record.Place.{Place as CodePlace}
 use Rattle.rle.specs.declared.record.Place.TheVariants.{Nowhere, InHeader, InByte, InTwoBytes}
 use Rattle.rle.specs.declared.record.OrderRecord.{OrderRecord}
+use Rattle.rle.specs.Kinds.{kind_in}
 
 abbrev pub place_in : CodePlace → Place
 place_in Nowhere = nowhere
@@ -18,7 +18,7 @@ record_in r =
     record {
       header = r.header;
       place = place_in r.place;
-      kind = kind_of r.kind;
+      kind = kind_in r.kind;
       run_length = r.run_length;
       pixels = r.pixels;
       first_row = r.first_row;

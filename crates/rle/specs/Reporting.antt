@@ -1,21 +1,19 @@
 -- What the functions of report.rt promise: the report that an ending and counts make.
-use Rattle.std.specs.Prelude.{ℕ}
+use Rattle.std.specs.Prelude.{ℕ, Ok, Err}
 use Rattle.picture.specs.declared.outcome.RleError.{RleError}
-use Rattle.picture.specs.declared.outcome.Outcome.TheVariants.{Err}
 use Rattle.picture.specs.Sizes.{Refusal, refusal}
 use Rattle.picture.specs.Outcomes.{refusal_of}
 use Rattle.definition.specs.Decode.{Summary, summary}
-use Rattle.rle.specs.declared.plan.Ending.{Ending as CodeEnding}
-use Rattle.rle.specs.declared.plan.Ending.TheVariants.{Complete, Refused}
+use Rattle.rle.specs.Planning.{CodeEnding}
 use Rattle.rle.specs.declared.report.Report.{Report}
 
 abbrev pub refusal_after : CodeEnding → Refusal
-refusal_after Complete = refusal 0 0 0
-refusal_after (Refused e) = refusal_of e
+refusal_after (Ok u) = refusal 0 0 0
+refusal_after (Err e) = refusal_of e
 
 abbrev pub format_after : CodeEnding → ℕ → ℕ
-format_after Complete k = k
-format_after (Refused e) k = 0
+format_after (Ok u) k = k
+format_after (Err e) k = 0
 
 -- a stream of format k that was followed to its end or its refusal
 abbrev pub summary_after : CodeEnding → ℕ → ℕ → ℕ → Summary

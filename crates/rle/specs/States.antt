@@ -1,16 +1,16 @@
 -- The code's frame and state: what they stand for in the definition, what holds of a state between orders, and the states that the
 -- functions of state.rt answer.
-use Rattle.std.specs.Prelude.{Bool, true, false, ◌≡◌, List, [], ◌∷◌, ℕ, ◌+◌, ◌*◌, ◌≤◌, ltb, drop}
+use Rattle.std.specs.Prelude.{Bool, true, false, Result, Ok, Err, ◌≡◌, List, [], ◌∷◌, ℕ, ◌+◌, ◌*◌, ◌≤◌, ltb, drop}
 use Rattle.base.specs.Picks.{pick}
 use Rattle.picture.specs.Pixels.{Pixel, pixels_of, OfDepth}
-use Rattle.picture.specs.Sizes.{Frame}
+use Rattle.picture.specs.Sizes.{Frame, Checked, accepted, refused}
+use Rattle.picture.specs.Outcomes.{refusal_of, format_of}
 use Rattle.definition.specs.Decode.{State}
 use Rattle.definition.specs.Plan.{insert_after, orders_after}
 use Rattle.rle.specs.declared.paint.Mode.{Mode}
 use Rattle.rle.specs.declared.paint.Mode.TheVariants.{Solid, Above, AboveXor}
 use Rattle.rle.specs.declared.paint.Ink.{Ink as CodeInk}
 use Rattle.picture.specs.declared.outcome.RleError.{RleError}
-use Rattle.rle.specs.declared.plan.Ending.TheVariants.{Complete, Refused}
 use Rattle.rle.specs.declared.plan.Plan.{Plan as CodePlan}
 use Rattle.rle.specs.declared.state.Frame.{Frame as CodeFrame}
 use Rattle.rle.specs.declared.state.State.{State as CodeState}
@@ -26,6 +26,11 @@ frame_of f =
       width = f.width;
       total = f.total;
     }
+
+-- the definition's frame and format number, or its refusal
+abbrev pub checked_in : Result CodeFrame RleError → Checked
+checked_in (Ok f) = accepted (frame_of f) (format_of f.depth.format)
+checked_in (Err e) = refused (refusal_of e)
 
 -- the definition's state that the code's stands for, with the stream src and the target dst
 abbrev pub state_of : Frame → List ℕ → List ℕ → CodeState → State
@@ -100,10 +105,10 @@ at_pos s pos =
     }
 
 abbrev pub completed_in : CodeState → Stepped
-completed_in s = record { ending = Complete; state = s }
+completed_in s = record { ending = Ok tt; state = s }
 
 abbrev pub refused_in : RleError → CodeState → Stepped
-refused_in e s = record { ending = Refused e; state = s }
+refused_in e s = record { ending = Err e; state = s }
 
 -- no number of the state behind a plan is too large
 pub record Fits (s : CodeState) (p : CodePlan) : Type 0 where

@@ -1,20 +1,19 @@
 -- What the walk's functions promise each other: the record of an order, and where and how a walk stops.
-use Rattle.std.specs.Prelude.{◌≡◌, List, Bool, false, ℕ, suc, ◌+◌, ◌≤◌, eqb, length}
+use Rattle.std.specs.Prelude.{◌≡◌, List, Option, Some, None, Result, Ok, Err, Bool, false, ℕ, suc, ◌+◌, ◌≤◌, length}
 use Rattle.base.specs.Picks.{pick}
 use Rattle.picture.specs.Sizes.{Frame}
 use Rattle.definition.specs.Decode.{State, run}
+use Rattle.definition.specs.Plan.{leaves_insert}
 use Rattle.definition.specs.Records.{Order, orders_from, record_of, Numbered, no_order, nth}
 use Rattle.rle.specs.declared.head.OrderHead.{OrderHead}
-use Rattle.rle.specs.declared.plan.Ending.{Ending as CodeEnding}
-use Rattle.rle.specs.declared.plan.Ending.TheVariants.{Complete, Refused}
 use Rattle.rle.specs.declared.record.OrderRecord.{OrderRecord}
 use Rattle.rle.specs.declared.walk.Walk.{Walk}
 use Rattle.rle.specs.declared.walk.Found.{Found}
-use Rattle.rle.specs.declared.walk.Found.TheVariants as found
-use Rattle.rle.specs.declared.walk.Stop.{Stop}
-use Rattle.rle.specs.declared.walk.Stop.TheVariants as stop
 use Rattle.rle.specs.declared.walk.Walked.{Walked}
+use Rattle.picture.specs.declared.outcome.RleError.{RleError}
+use Rattle.rle.specs.Kinds.{kind_in}
 use Rattle.rle.specs.Orders.{run_in}
+use Rattle.rle.specs.Planning.{CodeEnding}
 use Rattle.rle.specs.Records.{record_in}
 use Rattle.rle.specs.Walks.{StandsFor}
 
@@ -28,21 +27,21 @@ record_at o pixels first insert =
       run_length = o.run_length;
       pixels = pixels;
       first_row = first;
-      inserted = pick (eqb o.kind 0) insert false;
+      inserted = pick (leaves_insert (kind_in o.kind)) insert false;
     }
 
-abbrev pub stopped_at : Stop → Walk → ℕ → Walked
-stopped_at stop walk orders = record { stop = stop; walk = walk; orders = orders }
+-- how a walk stops: behind the order that was looked for, at the stream's end, or at a refusal
+abbrev pub Stop : Type 0
+Stop = Result (Option OrderRecord) RleError
 
-abbrev pub found_by : Stop → Walk → Found
-found_by stop.End w = found.NoOrder
-found_by (stop.Refused e) w = found.NoOrder
-found_by (stop.Order r) w = found.Order r w
+abbrev pub found_by : Stop → Walk → Option Found
+found_by (Ok None) w = None
+found_by (Err e) w = None
+found_by (Ok (Some x)) w = Some (record { order = x; walk = w })
 
 abbrev pub ending_by : Stop → CodeEnding
-ending_by stop.End = Complete
-ending_by (stop.Refused e) = Refused e
-ending_by (stop.Order r) = Complete
+ending_by (Ok x) = Ok tt
+ending_by (Err e) = Err e
 
 -- order number n from the state `first` on has the record x, and the walk w stands for the state after it
 pub record ReachesOrder (f : Frame) (src : List ℕ) (first : State) (n : ℕ) (x : OrderRecord) (w : Walk) (orders : ℕ) : Type 0 where
@@ -61,9 +60,9 @@ pub record RunsOut (f : Frame) (first : State) (n : ℕ) (e : CodeEnding) (pixel
   pub counted : first.orders + orders ≡ state.orders
 
 abbrev pub stops_at : Stop → Frame → List ℕ → State → ℕ → Walk → ℕ → Type 0
-stops_at stop.End f src first n w orders = RunsOut f first n Complete w.pixels orders
-stops_at (stop.Refused e) f src first n w orders = RunsOut f first n (Refused e) w.pixels orders
-stops_at (stop.Order x) f src first n w orders = ReachesOrder f src first n x w orders
+stops_at (Ok None) f src first n w orders = RunsOut f first n (Ok tt) w.pixels orders
+stops_at (Err e) f src first n w orders = RunsOut f first n (Err e) w.pixels orders
+stops_at (Ok (Some x)) f src first n w orders = ReachesOrder f src first n x w orders
 
 -- the orders are walked from each state on that the walk stands for
 pub record WalksOrders (f : Frame) (src : List ℕ) (from : Walk) (n : ℕ) (r : Walked) : Type 0 where

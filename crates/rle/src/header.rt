@@ -1,22 +1,47 @@
 // An order's header byte: its kind and its own run length, each by one constant table.
 ghost use Rattle.std.specs.Prelude.{◌≡◌, ◌<◌};
-ghost use Rattle.definition.specs.Codes.{kind_number, kinds, length_number, lengths};
+ghost use Rattle.definition.specs.Codes as codes;
+ghost use Rattle.definition.specs.Codes.{kind_number, length_number};
+ghost use Rattle.rle.specs.Kinds.{number_of, numbers_in};
 
+use crate::kind::Kind;
 use base::widen;
 
-// The kind of each header byte, by its number in the definition's table: 0 background run, 1 foreground run, 2 fg/bg image,
-// 3 color run, 4 color image, 5 set-foreground run, 6 set-foreground fg/bg image, 7 dithered run, 8 and 9 special fg/bg 1 and 2,
-// 10 white, 11 black, 12 no order.
-const KINDS: [u8; 256] = [
-    0, 0, 0, 0, 0, 0, 0, 0, 0, 0, 0, 0, 0, 0, 0, 0, 0, 0, 0, 0, 0, 0, 0, 0, 0, 0, 0, 0, 0, 0, 0, 0,
-    1, 1, 1, 1, 1, 1, 1, 1, 1, 1, 1, 1, 1, 1, 1, 1, 1, 1, 1, 1, 1, 1, 1, 1, 1, 1, 1, 1, 1, 1, 1, 1,
-    2, 2, 2, 2, 2, 2, 2, 2, 2, 2, 2, 2, 2, 2, 2, 2, 2, 2, 2, 2, 2, 2, 2, 2, 2, 2, 2, 2, 2, 2, 2, 2,
-    3, 3, 3, 3, 3, 3, 3, 3, 3, 3, 3, 3, 3, 3, 3, 3, 3, 3, 3, 3, 3, 3, 3, 3, 3, 3, 3, 3, 3, 3, 3, 3,
-    4, 4, 4, 4, 4, 4, 4, 4, 4, 4, 4, 4, 4, 4, 4, 4, 4, 4, 4, 4, 4, 4, 4, 4, 4, 4, 4, 4, 4, 4, 4, 4,
-    12, 12, 12, 12, 12, 12, 12, 12, 12, 12, 12, 12, 12, 12, 12, 12, 12, 12, 12, 12, 12, 12, 12, 12,
-    12, 12, 12, 12, 12, 12, 12, 12, 5, 5, 5, 5, 5, 5, 5, 5, 5, 5, 5, 5, 5, 5, 5, 5, 6, 6, 6, 6, 6,
-    6, 6, 6, 6, 6, 6, 6, 6, 6, 6, 6, 7, 7, 7, 7, 7, 7, 7, 7, 7, 7, 7, 7, 7, 7, 7, 7, 0, 1, 2, 3, 4,
-    12, 5, 6, 7, 8, 9, 12, 12, 10, 11, 12,
+// The kind of each header byte: a row for each upper half. Below F0 a row has one kind, and the lower half is a run length.
+const KINDS: [[Kind; 16]; 16] = [
+    [Kind::BgRun; 16],
+    [Kind::BgRun; 16],
+    [Kind::FgRun; 16],
+    [Kind::FgRun; 16],
+    [Kind::FgBgImage; 16],
+    [Kind::FgBgImage; 16],
+    [Kind::ColorRun; 16],
+    [Kind::ColorRun; 16],
+    [Kind::ColorImage; 16],
+    [Kind::ColorImage; 16],
+    [Kind::NoOrder; 16],
+    [Kind::NoOrder; 16],
+    [Kind::SetFgRun; 16],
+    [Kind::SetFgBgImage; 16],
+    [Kind::DitheredRun; 16],
+    [
+        Kind::BgRun,
+        Kind::FgRun,
+        Kind::FgBgImage,
+        Kind::ColorRun,
+        Kind::ColorImage,
+        Kind::NoOrder,
+        Kind::SetFgRun,
+        Kind::SetFgBgImage,
+        Kind::DitheredRun,
+        Kind::SpecialFgBg1,
+        Kind::SpecialFgBg2,
+        Kind::NoOrder,
+        Kind::NoOrder,
+        Kind::White,
+        Kind::Black,
+        Kind::NoOrder,
+    ],
 ];
 
 // The run length that each header byte has itself, 0 where it stands in the bytes after it.
@@ -33,31 +58,34 @@ const LENGTHS: [u8; 256] = [
     6, 7, 8, 9, 10, 11, 12, 13, 14, 15, 0, 0, 0, 0, 0, 1, 0, 0, 0, 8, 8, 1, 1, 1, 1, 1,
 ];
 
-// The tables, to be made once a call and lent from then on: as constants they would be built anew at every lookup.
-pub(crate) fn header_kinds() -> [u8; 256]
-    ensures { result ≡ kinds }
-{
-    KINDS
+// Both tables, to be made once a call and lent from then on: as constants they would be built anew at every lookup.
+#[derive(Clone, Copy)]
+pub(crate) struct Headers {
+    kinds: [[Kind; 16]; 16],
+    lengths: [u8; 256],
+    ghost kinds_listed: { numbers_in kinds ≡ codes.kinds },
+    ghost lengths_listed: { lengths ≡ codes.lengths },
 }
 
-pub(crate) fn header_lengths() -> [u8; 256]
-    ensures { result ≡ lengths }
-{
-    LENGTHS
-}
+impl Headers {
+    pub(crate) fn new() -> Self {
+        Headers {
+            kinds: KINDS,
+            lengths: LENGTHS,
+        }
+    }
 
-pub(crate) fn kind(table: &[u8; 256], header: usize) -> u8
-    requires table_value { table.now ≡ kinds }
-    requires header_bound { header < 256 }
-    ensures { result ≡ kind_number header }
-{
-    table[header]
-}
+    pub(crate) fn kind(&self, header: usize) -> Kind
+        requires { header < 256 }
+        ensures { number_of result ≡ kind_number header }
+    {
+        self.kinds[header / 16][header % 16]
+    }
 
-pub(crate) fn own_length(table: &[u8; 256], header: usize) -> usize
-    requires table_value { table.now ≡ lengths }
-    requires header_bound { header < 256 }
-    ensures { result ≡ length_number header }
-{
-    widen(table[header])
+    pub(crate) fn own_length(&self, header: usize) -> usize
+        requires { header < 256 }
+        ensures { result ≡ length_number header }
+    {
+        widen(self.lengths[header])
+    }
 }

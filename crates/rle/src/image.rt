@@ -1,16 +1,17 @@
 // Orders that paint images. Each plans the order, paints the pixels that the plan says, and ends as the plan says.
-ghost use Rattle.std.specs.Prelude.{◌≡◌, List, ℕ, ◌≤◌, eqb, length, drop};
-ghost use Rattle.base.specs.Picks.{pick};
+ghost use Rattle.std.specs.Prelude.{◌≡◌, ◌⊎◌, List, ℕ, ◌≤◌, length, drop};
 ghost use Rattle.definition.specs.Orders as orders;
 ghost use Rattle.definition.specs.Decode as decode;
 ghost use Rattle.definition.specs.Plan as plan;
-ghost use Rattle.rle.specs.Planning.{image_kind, special_kind};
+ghost use Rattle.rle.specs.Kinds.{kind_in};
+ghost use Rattle.rle.specs.declared.kind.Kind.TheVariants.{FgBgImage, SetFgBgImage, SpecialFgBg1, SpecialFgBg2};
 ghost use Rattle.rle.specs.States.{frame_of, with_fg};
 ghost use Rattle.rle.specs.Orders.{Ready, Executes};
 
+use crate::kind::Kind;
 use crate::paint::{paint_image, paint_masks, paint_whole_masks};
-use crate::plan::{foreground_size, plan_color_image, plan_fgbg_image, plan_run};
-use crate::state::{Frame, State, Stepped, bg_ink, fg_ink, finished, new_foreground};
+use crate::plan::foreground_size;
+use crate::state::{Frame, State, Stepped};
 
 pub(crate) fn color_image(src: &[u8], dst: &mut [u8], f: Frame, s: State, n: usize) -> Stepped
     requires ready { Ready (length dst.old) (frame_of f) s n }
@@ -18,30 +19,32 @@ pub(crate) fn color_image(src: &[u8], dst: &mut [u8], f: Frame, s: State, n: usi
     ensures { Executes (frame_of f) src.now dst.old dst.new s result (decode.order_of (frame_of f) orders.Kind.ColorImage n) }
 {
     let d = f.depth.bytes;
-    let p = plan_color_image(d, f.total - s.pixels, n, src.len() - s.pos);
+    let p = f.room(s.pixels).color_image(n, src.len() - s.pos);
     if p.pixels == 0 {
-        return finished(s, p, false);
+        return s.finished(p, false);
     }
     paint_image(src, s.pos, dst, d, s.pixels, p.pixels);
-    finished(s, p, false)
+    s.finished(p, false)
 }
 
-// The mask of a special fg/bg image, by its kind's number.
-pub(crate) fn special_mask(kind: u8) -> u8
-    ensures { result ≡ pick (eqb kind 8) 0x03 0x05 }
+// The mask of a special fg/bg image.
+pub(crate) fn special_mask(kind: Kind) -> u8
+    ensures first { kind ≡ SpecialFgBg1 → result ≡ 0x03 }
+    ensures second { kind ≡ SpecialFgBg2 → result ≡ 0x05 }
 {
-    if kind == 8 {
-        return 0x03;
+    match kind {
+        Kind::SpecialFgBg1 => 0x03,
+        _ => 0x05,
     }
-    0x05
 }
 
-pub(crate) fn special_fgbg(dst: &mut [u8], f: Frame, s: State, kind: u8) -> Stepped
-    requires { Ready (length dst.old) (frame_of f) s 8 }
-    ensures { (src : List ℕ) → s.pos ≤ length src → Executes (frame_of f) src dst.old dst.new s result (decode.order_of (frame_of f) (special_kind kind) 8) }
+pub(crate) fn special_fgbg(dst: &mut [u8], f: Frame, s: State, kind: Kind) -> Stepped
+    requires ready { Ready (length dst.old) (frame_of f) s 8 }
+    requires special { (kind ≡ SpecialFgBg1) ⊎ (kind ≡ SpecialFgBg2) }
+    ensures { (src : List ℕ) → s.pos ≤ length src → Executes (frame_of f) src dst.old dst.new s result (decode.order_of (frame_of f) (kind_in kind) 8) }
 {
     let d = f.depth.bytes;
-    let p = plan_run(d, f.total - s.pixels, 8);
+    let p = f.room(s.pixels).run(8);
     let masks = [special_mask(kind)];
     paint_whole_masks(
         &masks,
@@ -51,38 +54,39 @@ pub(crate) fn special_fgbg(dst: &mut [u8], f: Frame, s: State, kind: u8) -> Step
         f.width,
         s.pixels,
         p.pixels / 8,
-        fg_ink(s),
-        bg_ink(f, s),
+        s.fg_ink(),
+        s.bg_ink(f),
     );
-    finished(s, p, false)
+    s.finished(p, false)
 }
 
-// The state with the foreground that an fg/bg image reads, if its kind's number is 6.
-pub(crate) fn image_foreground(src: &[u8], d: usize, s: State, kind: u8) -> State
+// The state with the foreground that an order of this kind reads, if it does and its bytes are there.
+pub(crate) fn image_foreground(src: &[u8], d: usize, s: State, kind: Kind) -> State
     requires { (1 ≤ d) × (d ≤ 3) × (s.pos ≤ length src.now) }
-    ensures { result ≡ with_fg s (plan.foreground_by d (image_kind kind) s.foreground (drop s.pos src.now)) }
+    ensures { result ≡ with_fg s (plan.foreground_by d (kind_in kind) s.foreground (drop s.pos src.now)) }
 {
-    if kind == 6 {
-        return new_foreground(src, d, s);
+    if kind.sets_foreground() {
+        return s.new_foreground(src, d);
     }
     s
 }
 
-// An fg/bg image, with a foreground of its own where the kind's number is 6.
+// An fg/bg image, with or without a foreground of its own.
 pub(crate) fn fgbg_image(
     src: &[u8],
     dst: &mut [u8],
     f: Frame,
     s: State,
-    kind: u8,
+    kind: Kind,
     n: usize,
 ) -> Stepped
     requires ready { Ready (length dst.old) (frame_of f) s n }
     requires pos_in_bounds { s.pos ≤ length src.now }
-    ensures { Executes (frame_of f) src.now dst.old dst.new s result (decode.order_of (frame_of f) (image_kind kind) n) }
+    requires image { (kind ≡ FgBgImage) ⊎ (kind ≡ SetFgBgImage) }
+    ensures { Executes (frame_of f) src.now dst.old dst.new s result (decode.order_of (frame_of f) (kind_in kind) n) }
 {
     let d = f.depth.bytes;
-    let p = plan_fgbg_image(d, f.total - s.pixels, kind, n, src.len() - s.pos);
+    let p = f.room(s.pixels).fgbg_image(kind, n, src.len() - s.pos);
     let t = image_foreground(src, d, s, kind);
     paint_masks(
         src,
@@ -92,8 +96,8 @@ pub(crate) fn fgbg_image(
         f.width,
         s.pixels,
         p.pixels,
-        fg_ink(t),
-        bg_ink(f, t),
+        t.fg_ink(),
+        t.bg_ink(f),
     );
-    finished(t, p, false)
+    t.finished(p, false)
 }

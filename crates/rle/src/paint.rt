@@ -66,7 +66,7 @@ pub(crate) fn paint_color(dst: &mut [u8], d: usize, w: usize, k: usize, n: usize
 {
     let at = k * d;
     let end = at + n * d;
-    fill(&mut dst[at..end], d, 0, n, p[0], p[1], p[2]);
+    fill(&mut dst[at..end], d, 0, n, p);
 }
 
 // n pixels from number k on, those above.
@@ -93,7 +93,7 @@ pub(crate) fn paint_xor(dst: &mut [u8], d: usize, w: usize, k: usize, n: usize, 
     let at = k * d;
     let from = at - row;
     let end = at + n * d;
-    xor_back(&mut dst[from..end], d, row, n, row, p[0], p[1], p[2]);
+    xor_back(&mut dst[from..end], d, row, n, row, p);
 }
 
 // n pixels from number k on, all with one ink.
@@ -176,15 +176,12 @@ pub(crate) fn is_solid(mode: Mode) -> bool
     }
 }
 
-// How many bytes back masks look: none in the first row.
-pub(crate) fn bytes_back(first: bool, d: usize, w: usize) -> usize
+// How many bytes back masks look: nowhere in the first row.
+pub(crate) fn bytes_back(first: bool, d: usize, w: usize) -> Option<usize>
     requires { first ≡ false → w * d ≤ 18446744073709551615 }
-    ensures { result ≡ pick first 0 (w * d) }
+    ensures { result ≡ pick first None (Some (w * d)) }
 {
-    if first {
-        return 0;
-    }
-    w * d
+    if first { None } else { Some(w * d) }
 }
 
 // 8 * m pixels from number k on, by the m masks from src[from] on.
@@ -206,7 +203,8 @@ pub(crate) fn paint_whole_masks(
     let p = fg.pixel;
     let mode = fg.mode;
     let first = is_solid(mode);
-    let row = bytes_back(first, d, w);
+    let back = bytes_back(first, d, w);
+    let row = back.unwrap_or(0);
     let at = k * d;
     let start = at - row;
     let end = at + m * 8 * d;
@@ -217,12 +215,9 @@ pub(crate) fn paint_whole_masks(
         &mut dst[start..end],
         d,
         row,
-        row,
+        back,
         m,
-        first,
-        p[0],
-        p[1],
-        p[2],
+        p,
     );
 }
 
@@ -246,21 +241,9 @@ pub(crate) fn paint_mask_part(
     let p = fg.pixel;
     let mode = fg.mode;
     let first = is_solid(mode);
-    let row = bytes_back(first, d, w);
+    let back = bytes_back(first, d, w);
     let last = from + 1;
-    mask_part(
-        &src[from..last],
-        0,
-        dst,
-        d,
-        k * d,
-        row,
-        n,
-        first,
-        p[0],
-        p[1],
-        p[2],
-    );
+    mask_part(&src[from..last], 0, dst, d, k * d, back, n, p);
 }
 
 // n pixels from number k on, eight to a mask, by the masks from src[from] on.
@@ -298,18 +281,7 @@ pub(crate) fn paint_dithered(dst: &mut [u8], d: usize, k: usize, n: usize, a: [u
 {
     let at = k * d;
     let end = at + n * d;
-    fill_pairs(
-        &mut dst[at..end],
-        d,
-        0,
-        n / 2,
-        a[0],
-        a[1],
-        a[2],
-        b[0],
-        b[1],
-        b[2],
-    );
+    fill_pairs(&mut dst[at..end], d, 0, n / 2, a, b);
 }
 
 // One pixel or none, at number k.

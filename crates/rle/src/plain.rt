@@ -10,33 +10,13 @@ pub(crate) mod decode;
 pub(crate) mod order;
 pub(crate) mod paint;
 
-use crate::plain::decode::decode;
-use crate::report::{Report, not_decoded, report_of};
-use crate::state::Frame;
-use picture::{PictureSize, RleError, depth_of, picture_size};
+use crate::decode::decompress_by;
+use crate::plain::decode::Plain;
+use crate::report::Report;
 
 // Decodes the stream `src` of a picture into the first bytes of `dst`, of which the bytes after the painted pixels stay.
 pub fn decompress(src: &[u8], dst: &mut [u8], width: usize, height: usize, bpp: usize) -> Report
     ensures { Decompresses src.now bpp width height dst.old dst.new result }
 {
-    let size = picture_size(width, height, bpp);
-    match size {
-        PictureSize::Refused(e) => not_decoded(e),
-        PictureSize::Bytes(needed) => {
-            let given = dst.len();
-            if given < needed {
-                return not_decoded(RleError::BufferTooShort { needed, given });
-            }
-            let depth = depth_of(bpp);
-            let f = Frame {
-                depth,
-                width,
-                total: width * height,
-            };
-            let r = decode(src, dst, f);
-            let e = r.ending;
-            let s = r.state;
-            report_of(e, s.pixels, s.orders, depth.format)
-        }
-    }
+    decompress_by::<Plain>(src, dst, width, height, bpp)
 }

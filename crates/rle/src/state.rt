@@ -1,12 +1,13 @@
 // The decoder's frame and state, and what its orders paint with.
-ghost use Rattle.std.specs.Prelude.{◌≡◌, ◌≤◌, length, drop};
+ghost use Rattle.std.specs.Prelude.{◌≡◌, ◌-◌, ◌≤◌, length, drop};
+ghost use Rattle.picture.specs.Sizes.{checked};
 ghost use Rattle.definition.specs.Plan as plan;
-ghost use Rattle.rle.specs.States.{row_ink, fg_of, bg_of, with_fg, start_of, at_pos, completed_in, refused_in, first_row_ended, Fits, finished_of};
+ghost use Rattle.rle.specs.States.{checked_in, row_ink, fg_of, bg_of, with_fg, start_of, at_pos, completed_in, refused_in, first_row_ended, Fits, finished_of};
 
 use crate::paint::{Ink, Mode, solid};
 use crate::pixel::read_pixel;
-use crate::plan::{Ending, Plan};
-use picture::{Depth, RleError};
+use crate::plan::{Plan, Room};
+use picture::{Depth, RleError, depth_of, picture_size};
 
 // What a picture's orders go by: its depth, its width, and its pixels.
 #[derive(Clone, Copy)]
@@ -29,95 +30,136 @@ pub(crate) struct State {
     pub(crate) orders: usize,
 }
 
+// How an order, or a whole stream, ends, and in which state.
 #[derive(Clone, Copy)]
 pub(crate) struct Stepped {
-    pub(crate) ending: Ending,
+    pub(crate) ending: Result<(), RleError>,
     pub(crate) state: State,
 }
 
-// The state before the first order.
-pub(crate) fn start(f: Frame) -> State
-    ensures { result ≡ start_of f }
-{
-    let d = f.depth;
-    let p = d.white;
-    State {
-        foreground: p,
-        pos: 0,
-        insert: false,
-        pixels: 0,
-        first_row: true,
-        orders: 0,
+impl Frame {
+    // The frame of a picture, or the refusal of its depth or its sizes.
+    pub(crate) fn new(width: usize, height: usize, bpp: usize) -> Result<Self, RleError>
+        ensures { checked_in result ≡ checked bpp width height }
+    {
+        let depth = depth_of(bpp).ok_or(RleError::InvalidBpp { bpp })?;
+        picture_size(width, height, bpp)?;
+        Ok(Frame {
+            depth,
+            width,
+            total: width * height,
+        })
     }
-}
 
-// The state at another place of the stream.
-pub(crate) fn moved(s: State, pos: usize) -> State
-    ensures { result ≡ at_pos s pos }
-{
-    let mut t = s;
-    t.pos = pos;
-    t
-}
-
-// The stream ends in this state.
-pub(crate) fn completed(s: State) -> Stepped
-    ensures { result ≡ completed_in s }
-{
-    Stepped {
-        ending: Ending::Complete,
-        state: s,
-    }
-}
-
-// The stream is refused in this state.
-pub(crate) fn refused(e: RleError, s: State) -> Stepped
-    ensures { result ≡ refused_in e s }
-{
-    Stepped {
-        ending: Ending::Refused(e),
-        state: s,
-    }
-}
-
-// The first row ends for good at an order's start with at least one row painted, and a pending insert is dropped.
-pub(crate) fn end_first_row(f: Frame, s: State) -> State
-    ensures { result ≡ first_row_ended f s }
-{
-    if s.first_row {
-        if s.pixels < f.width {
-            return s;
+    // What the picture has left behind so many pixels.
+    pub(crate) fn room(self, pixels: usize) -> Room
+        requires { (self.depth.bytes ≤ 3) × (self.total ≤ 67108864) × (pixels ≤ self.total) }
+        ensures { (result.bytes ≡ self.depth.bytes) × (result.pixels ≡ self.total - pixels) }
+    {
+        Room {
+            bytes: self.depth.bytes,
+            pixels: self.total - pixels,
         }
-        let mut t = s;
-        t.insert = false;
-        t.first_row = false;
-        return t;
     }
-    s
 }
 
-// The state behind an order that is carried out as planned, and leaves an insert pending or not.
-pub(crate) fn finished(s: State, p: Plan, insert: bool) -> Stepped
-    requires { Fits s p }
-    ensures { result ≡ finished_of s p insert }
-{
-    let mut t = s;
-    t.pos = s.pos + p.read;
-    t.pixels = s.pixels + p.pixels;
-    let a = p.ending;
-    match a {
-        Ending::Refused(e) => Stepped {
-            ending: Ending::Refused(e),
-            state: t,
-        },
-        Ending::Complete => {
+impl State {
+    // The state before the first order.
+    pub(crate) fn start(f: Frame) -> Self
+        ensures { result ≡ start_of f }
+    {
+        let foreground = f.depth.white;
+        State {
+            foreground,
+            pos: 0,
+            insert: false,
+            pixels: 0,
+            first_row: true,
+            orders: 0,
+        }
+    }
+
+    // The state at another place of the stream.
+    pub(crate) fn moved(mut self, pos: usize) -> Self
+        ensures { result ≡ at_pos self pos }
+    {
+        self.pos = pos;
+        self
+    }
+
+    // The stream ends in this state.
+    pub(crate) fn completed(self) -> Stepped
+        ensures { result ≡ completed_in self }
+    {
+        Stepped {
+            ending: Ok(()),
+            state: self,
+        }
+    }
+
+    // The stream is refused in this state.
+    pub(crate) fn refused(self, e: RleError) -> Stepped
+        ensures { result ≡ refused_in e self }
+    {
+        Stepped {
+            ending: Err(e),
+            state: self,
+        }
+    }
+
+    // The first row ends for good at an order's start with at least one row painted, and a pending insert is dropped.
+    pub(crate) fn end_first_row(mut self, f: Frame) -> Self
+        ensures { result ≡ first_row_ended f self }
+    {
+        if self.first_row && f.width <= self.pixels {
+            self.insert = false;
+            self.first_row = false;
+        }
+        self
+    }
+
+    // The state behind an order that is carried out as planned, and leaves an insert pending or not.
+    pub(crate) fn finished(self, p: Plan, insert: bool) -> Stepped
+        requires { Fits self p }
+        ensures { result ≡ finished_of self p insert }
+    {
+        let mut t = self;
+        t.pos = self.pos + p.read;
+        t.pixels = self.pixels + p.pixels;
+        if p.ending.is_ok() {
             t.insert = insert;
-            t.orders = s.orders + 1;
-            Stepped {
-                ending: Ending::Complete,
-                state: t,
-            }
+            t.orders = self.orders + 1;
         }
+        Stepped {
+            ending: p.ending,
+            state: t,
+        }
+    }
+
+    pub(crate) fn fg_ink(self) -> Ink
+        ensures { result ≡ fg_of self }
+    {
+        let foreground = self.foreground;
+        row_ink(self.first_row, Mode::AboveXor, foreground)
+    }
+
+    pub(crate) fn bg_ink(self, f: Frame) -> Ink
+        ensures { result ≡ bg_of f self }
+    {
+        let black = f.depth.black;
+        row_ink(self.first_row, Mode::Above, black)
+    }
+
+    // The state with the foreground that stands next in the stream, where its bytes are there.
+    pub(crate) fn new_foreground(mut self, src: &[u8], d: usize) -> Self
+        requires { (1 ≤ d) × (d ≤ 3) × (self.pos ≤ length src.now) }
+        ensures { result ≡ with_fg self (plan.new_foreground d self.foreground (drop self.pos src.now)) }
+    {
+        if d <= src.len() - self.pos {
+            let p = read_pixel(src, d, self.pos);
+            self.foreground = p;
+        }
+        self
     }
 }
 
@@ -132,34 +174,4 @@ pub(crate) fn row_ink(first: bool, later: Mode, p: [u8; 3]) -> Ink
         mode: later,
         pixel: p,
     }
-}
-
-pub(crate) fn fg_ink(s: State) -> Ink
-    ensures { result ≡ fg_of s }
-{
-    let p = s.foreground;
-    row_ink(s.first_row, Mode::AboveXor, p)
-}
-
-pub(crate) fn bg_ink(f: Frame, s: State) -> Ink
-    ensures { result ≡ bg_of f s }
-{
-    let d = f.depth;
-    let p = d.black;
-    row_ink(s.first_row, Mode::Above, p)
-}
-
-// The state with the foreground that stands next in the stream, where its bytes are there.
-pub(crate) fn new_foreground(src: &[u8], d: usize, s: State) -> State
-    requires { (1 ≤ d) × (d ≤ 3) × (s.pos ≤ length src.now) }
-    ensures { result ≡ with_fg s (plan.new_foreground d s.foreground (drop s.pos src.now)) }
-{
-    let pos = s.pos;
-    if src.len() - pos < d {
-        return s;
-    }
-    let p = read_pixel(src, d, pos);
-    let mut t = s;
-    t.foreground = p;
-    t
 }

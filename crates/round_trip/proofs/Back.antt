@@ -8,6 +8,7 @@ use lib.Dec.{leb, ltb, eqb}
 use lib.ListN.{length, take, drop, length-append}
 use lib.Seq.{take-append_seam}
 use borrow.Author.Tests.{le-leb, ltb-false}
+use Rattle.std.specs.Prelude.{Result}
 use Rattle.base.specs.Picks.{pick}
 use Rattle.base.proofs.Tests.{apart, by_test}
 use Rattle.picture.specs.Sizes.{Refusal, refusal, depth_index, depth_of, Frame, Checked, refused, accepted, accept, checked, with_space, size_of}
@@ -24,7 +25,7 @@ use Rattle.encoding.specs.Bound.{bound}
 use Rattle.encoding.specs.Compress as rule
 use Rattle.encoding.proofs.Bound.{bound_holds}
 use Rattle.encoding.proofs.RoundTrip.{encoded-back, bytes_back}
-use Rattle.encode.specs.declared.Compressed.{Compressed}
+use Rattle.encode.specs.declared.error.CompressError.{CompressError}
 use Rattle.encode.specs.Promises.{refusal_in, length_in, Compresses}
 use Rattle.round_trip.specs.Guarantee.{is_accepted, HasPicture, ComesBack}
 
@@ -97,12 +98,12 @@ unfolding rule.length_of rule.output
 length-output before (rule.stream s) = rw length-append (omega arith)
 length-output before (rule.refused r) = omega arith
 
-pub length-inside : (src : List ℕ) (bpp w h : ℕ) (before after : List ℕ) (r : Compressed) → Compresses src bpp w h before after r → length_in r ≤ length after
+pub length-inside : (src : List ℕ) (bpp w h : ℕ) (before after : List ℕ) (r : Result ℕ CompressError) → Compresses src bpp w h before after r → length_in r ≤ length after
 length-inside src bpp w h before after r c = rw (c.size, c.output) (length-output before (rule.compressed (length before) src bpp w h))
 
 -- ---- both calls
 
-module _ (src : List ℕ) (bpp w h : ℕ) (output written : List ℕ) (answer : Compressed) (c : Compresses src bpp w h output written answer) where
+module _ (src : List ℕ) (bpp w h : ℕ) (output written : List ℕ) (answer : Result ℕ CompressError) (c : Compresses src bpp w h output written answer) where
   pub not_refused : HasPicture src bpp w h → bound bpp w h ≤ length output → refusal_in answer ≡ refusal 0 0 0
   unfolding rule.compressed rule.of_checked rule.in_output rule.refusal_of
   not_refused p b = c.refusal ∙ go (with_space (length src) (checked bpp w h)) refl p

@@ -1,11 +1,11 @@
 -- What the contracts of `compress` and `decompress` amount to together, over all pictures, depths, sizes and targets.
-use Rattle.std.specs.Prelude.{◌≡◌, List, ℕ, ◌*◌, ◌≤◌, length, take, drop}
+use Rattle.std.specs.Prelude.{◌≡◌, List, ℕ, ◌*◌, ◌≤◌, length, take, drop, Result}
 use Rattle.picture.specs.Outcomes.{refusal_in as reportRefusal, format_in}
 use Rattle.picture.specs.Sizes.{refusal, depth_of, Checked, refused, accepted, checked, with_space}
 use Rattle.rle.specs.declared.report.Report.{Report}
 use Rattle.rle.specs.Guarantees.{HasSpace}
 use Rattle.encoding.specs.Bound.{bound}
-use Rattle.encode.specs.declared.Compressed.{Compressed}
+use Rattle.encode.specs.declared.error.CompressError.{CompressError}
 use Rattle.encode.specs.Promises.{refusal_in}
 
 abbrev pub is_accepted : Checked → Type 0
@@ -28,7 +28,7 @@ pub record ComesBack (src : List ℕ) (bpp w h : ℕ) (before after : List ℕ) 
   pub bytes : take (size bpp w h) after ≡ take (size bpp w h) src
   pub kept : drop (size bpp w h) after ≡ drop (size bpp w h) before
 
-pub record RoundTrip (src : List ℕ) (bpp w h : ℕ) (output before after : List ℕ) (answer : Compressed) (report : Report) : Type 0 where
+pub record RoundTrip (src : List ℕ) (bpp w h : ℕ) (output before after : List ℕ) (answer : Result ℕ CompressError) (report : Report) : Type 0 where
   -- with the bound's bytes for the stream, encoding is not refused
   pub written : HasPicture src bpp w h → bound bpp w h ≤ length output → refusal_in answer ≡ refusal 0 0 0
   -- where it is not refused, the picture comes back into every target with space

@@ -6,23 +6,12 @@ ghost use Rattle.rle.specs.Report.{Decompresses};
 ghost use Rattle.encode.specs.Promises.{Compresses, length_in};
 ghost use Rattle.round_trip.specs.Guarantee.{RoundTrip};
 
-use encode::Compressed;
+use encode::CompressError;
 
 #[derive(Clone, Copy)]
 pub struct Trip {
-    pub answer: Compressed,
+    pub answer: Result<usize, CompressError>,
     pub report: rle::Report,
-}
-
-// The stream's length, 0 where refused.
-pub(crate) fn stream_length(answer: Compressed) -> usize
-    ensures { result ≡ length_in answer }
-{
-    match answer {
-        Compressed::Length(n) => n,
-        Compressed::Refused(_) => 0,
-        Compressed::OutputTooShort => 0,
-    }
 }
 
 // Encodes the picture that `src` starts with into `stream`, and decodes what was written there into `dst`.
@@ -39,7 +28,7 @@ pub fn encode_and_decode(
     ensures round_trip { RoundTrip src.now bpp width height stream.old dst.old dst.new result.answer result.report }
 {
     let answer = encode::compress(src, stream, width, height, bpp);
-    let n = stream_length(answer);
+    let n = answer.unwrap_or(0);
     let report = rle::decompress(&stream[..n], dst, width, height, bpp);
     Trip { answer, report }
 }

@@ -1,10 +1,12 @@
 -- A row to show: row r of the new picture where it is wholly painted, else the same part of the picture on screen. An empty part
 -- of the new one for bad depth or sizes, no such row, or a slice that is shorter than the picture.
-use Rattle.std.specs.Prelude.{List, Bool, false, ℕ, ◌+◌, ◌*◌, ltb, length, take, drop}
+use Rattle.std.specs.Prelude.{List, Bool, true, false, ℕ, ◌+◌, ◌*◌, ltb, length, take, drop}
 use Rattle.std.specs.Borrow.{Bor}
 use Rattle.base.specs.Picks.{pick}
 use Rattle.picture.specs.Sizes.{checked, depth_of, Size, size_of, has_space}
 use Rattle.screen.specs.declared.Part.{Part}
+use Rattle.screen.specs.declared.Source.{Source}
+use Rattle.screen.specs.declared.Source.TheVariants.{New, Screen}
 
 -- a part of the new picture or of the one on screen, in bytes
 pub record RowPart : Type 0 where
@@ -52,5 +54,9 @@ place_to_show new pixels screen bpp w h r =
     part_place new.ref_ptr screen.ref_ptr (part_to_show (length new.now) pixels (length screen.now) bpp w h r)
 
 -- the part that the code's stands for
+abbrev pub on_screen : Source → Bool
+on_screen New = false
+on_screen Screen = true
+
 abbrev pub part_of : Part → RowPart
-part_of p = row_part p.on_screen p.start p.size
+part_of p = row_part (on_screen p.source) p.start p.size

@@ -4,29 +4,33 @@
 #![tactic(auto)]
 
 ghost use Rattle.std.specs.Prelude.{◌≡◌};
-ghost use Rattle.screen.specs.Rows.{no_part, part_of, part_to_show, place_to_show, row_to_show};
+ghost use Rattle.screen.specs.Rows.{part_of, part_to_show, place_to_show, row_to_show};
 
-use picture::PictureSize;
+// The picture that a part is of.
+#[derive(Clone, Copy, Debug, PartialEq, Eq)]
+pub enum Source {
+    New,
+    Screen,
+}
 
 // A part of the new picture or of the one on screen, in bytes.
-#[derive(Clone, Copy)]
+#[derive(Clone, Copy, Debug, PartialEq, Eq)]
 pub struct Part {
-    pub on_screen: bool,
+    pub source: Source,
     pub start: usize,
     pub size: usize,
 }
 
-pub(crate) fn nothing() -> Part
-    ensures { part_of result ≡ no_part }
-{
-    Part {
-        on_screen: false,
+impl Part {
+    pub const EMPTY: Part = Part {
+        source: Source::New,
         start: 0,
         size: 0,
-    }
+    };
 }
 
 // Where row r stands, in slices of `new` and `screen` bytes. For callers that can't be given a slice.
+#[tactic(auto, unfolding(crate::specs::Rows::part_to_show, crate::specs::Rows::part_in, picture::specs::Sizes::has_space))]
 pub fn part_to_show(
     new: usize,
     pixels: usize,
@@ -38,27 +42,18 @@ pub fn part_to_show(
 ) -> Part
     ensures { part_of result ≡ part_to_show new pixels screen bpp width height r }
 {
-    let size = picture::picture_size(width, height, bpp);
-    match size {
-        PictureSize::Refused(_) => nothing(),
-        PictureSize::Bytes(n) => {
-            if new < n {
-                return nothing();
-            }
-            if screen < n {
-                return nothing();
-            }
-            // Before r + 1, which might not fit.
-            if height <= r {
-                return nothing();
-            }
+    match picture::picture_size(width, height, bpp) {
+        // With r below the height, r + 1 fits.
+        Ok(bytes) if bytes <= new && bytes <= screen && r < height => {
             let row = width * picture::bytes_per_pixel(bpp);
+            let painted = (r + 1) * width <= pixels;
             Part {
-                on_screen: pixels < (r + 1) * width,
+                source: if painted { Source::New } else { Source::Screen },
                 start: r * row,
                 size: row,
             }
         }
+        _ => Part::EMPTY,
     }
 }
 
@@ -79,9 +74,8 @@ pub fn row_to_show<'a>(
     let part = part_to_show(new.len(), pixels, screen.len(), bpp, width, height, r);
     let from = part.start;
     let to = from + part.size;
-    if part.on_screen {
-        &screen[from..to]
-    } else {
-        &new[from..to]
+    match part.source {
+        Source::New => &new[from..to],
+        Source::Screen => &screen[from..to],
     }
 }

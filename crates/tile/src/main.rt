@@ -2,92 +2,75 @@
 // so on standard error.
 #![tactic(auto)]
 
-ghost use Rattle.std.specs.Prelude.{◌≤◌};
-ghost use Rattle.tile_text.specs.Parse.{start};
-ghost use Rattle.tile.specs.Input.{ReadFrom};
+ghost use Rattle.std.specs.Prelude.{◌≡◌, IfOk, OnOk};
+ghost use Rattle.std.specs.Io.KnownBytes.{IsAtEnd};
+ghost use Rattle.tile.specs.Input.{ReadFrom, Replied};
 
-use std::io::{Read, Write};
+use std::io::{self, Read, Write};
+use thiserror::Error;
 use tile_text::Parser;
 
-// `more`: bytes came; where none came, `failed`: the input could not be read, and else it is at its end.
-#[derive(Drop)]
-struct Chunk {
-    parser: Parser,
-    more: bool,
-    failed: bool,
+// What stops the program before its end.
+#[derive(Clone, Copy, Debug, Error)]
+enum Failure {
+    #[error("cannot read standard input")]
+    Read,
+    #[error("cannot write standard output")]
+    Write,
 }
 
-// `whole`: the input was read to its end.
-#[derive(Drop)]
-struct Input {
-    parser: Parser,
-    whole: bool,
-}
-
-// Reads once and feeds what came.
-fn read_chunk<R: Read>(input: &mut R, p: Parser, stream: &mut [u8; 8192]) -> Chunk
-    ensures { ReadFrom p stream.old result.parser stream.new }
+// Reads once, feeds what came, and gives how many bytes that were.
+fn read_chunk<R: Read>(
+    input: &mut R,
+    parser: &mut Parser,
+    stream: &mut [u8; 8192],
+) -> io::Result<usize>
+    ensures read { ReadFrom (R.remaining input.old) (R.remaining input.new)
+        parser.old stream.old parser.new stream.new }
+    ensures end { IfOk result (λ n. n ≡ 0 → IsAtEnd (R.remaining input.new)) }
 {
     let mut bytes = [0u8; 4096];
-    match input.read(&mut bytes) {
-        Ok(n) => {
-            let parser = tile_text::feed(p, &bytes[..n], stream);
-            Chunk {
-                parser,
-                more: 0 < n,
-                failed: false,
-            }
-        }
-        Err(_) => Chunk {
-            parser: p,
-            more: false,
-            failed: true,
-        },
-    }
+    let n = input.read(&mut bytes)?;
+    parser.feed(&bytes[..n], stream);
+    Ok(n)
 }
 
 // A proved loop has to end, and nothing says that the input does. So the loop has a number of turns that no run uses up.
-fn read_all<R: Read>(input: &mut R, stream: &mut [u8; 8192]) -> Input
-    ensures { ReadFrom start stream.old result.parser stream.new }
+fn read_all<R: Read>(
+    input: &mut R,
+    parser: &mut Parser,
+    stream: &mut [u8; 8192],
+) -> Result<(), Failure>
+    ensures read { ReadFrom (R.remaining input.old) (R.remaining input.new)
+        parser.old stream.old parser.new stream.new }
+    ensures end { OnOk result (IsAtEnd (R.remaining input.new)) }
 {
-    let mut p = tile_text::start();
     for _ in 0..u64::MAX {
-        let c = read_chunk(input, p, stream);
-        p = c.parser;
-        if !c.more {
-            return Input {
-                parser: p,
-                whole: !c.failed,
-            };
+        let n = read_chunk(input, parser, stream).map_err(|_| Failure::Read)?;
+        if n == 0 {
+            return Ok(());
         }
     }
-    Input {
-        parser: p,
-        whole: false,
-    }
+    Err(Failure::Read)
 }
 
-// Whether all of the first n bytes were written.
-fn write_answer<W: Write>(output: &mut W, out: &[u8; 131328], n: usize) -> bool
-    requires { n ≤ 131328 }
+// Reads a tile text to its end, and writes the answer to it.
+fn answer<R: Read, W: Write>(input: &mut R, output: &mut W) -> Result<(), Failure>
+    ensures { OnOk result (Replied (R.remaining input.old) (R.remaining input.new)
+        (W.contents output.old) (W.contents output.new)) }
 {
-    let bytes: &[u8] = out;
-    output.write_all(&bytes[..n]).is_ok()
-}
-
-fn main(rt: HostRuntime) {
+    // Fixed memory is this project's rule: arrays and no heap, whatever the text's length.
     let mut stream = [0u8; 8192];
     let mut target = [0u8; 65536];
     let mut out = [0u8; 131328];
-    let mut stdin = rt.stdin();
-    let mut stdout = rt.stdout();
-    let input = read_all(&mut stdin, &mut stream);
-    if !input.whole {
-        let _ = eprintln!(rt; "tile: cannot read standard input");
-        return;
-    }
-    let n = tile_text::reply(input.parser, &stream, &mut target, &mut out);
-    if !write_answer(&mut stdout, &out, n) {
-        let _ = eprintln!(rt; "tile: cannot write standard output");
+    let mut parser = Parser::new();
+    read_all(input, &mut parser, &mut stream)?;
+    let n = tile_text::reply(parser, &stream, &mut target, &mut out);
+    output.write_all(&out[..n]).map_err(|_| Failure::Write)
+}
+
+fn main(rt: HostRuntime) {
+    if let Err(failure) = answer(&mut rt.stdin(), &mut rt.stdout()) {
+        let _ = eprintln!(rt; "tile: {failure}");
     }
 }

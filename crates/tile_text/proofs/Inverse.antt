@@ -1,26 +1,23 @@
 -- The parser undoes `text_of`: after a text it has read a whole tile exactly if the text is some tile's, and then it has that tile's
 -- numbers, and the array its stream. So what `reply` writes after a text, in chunks of any size, is the answer to the text.
 -- Assumes nothing.
-use mathlib.Core.Path.{◌≡◌, refl, ◌∙◌, ap, subst}
-use mathlib.Core.List.{List}
-use mathlib.Core.Bool.{Bool, true, false}
-use Prim.Native.Nat.{ℕ, ◌<◌, ◌≤◌, min}
-use native.Mathlib.Omega.{arith}
-use lib.Dec.{eqb}
-use lib.ListN.{length, get_or, take}
+use Rattle.std.proofs.Common.{◌≡◌, ℕ, ◌<◌, ◌≤◌, ◌⊎◌, min, inl, inr, List, length, get_or, take, refl, ap, ◌∙◌, subst, arith}
 use lib.Seq.{ext_get_or, get_or-take, length-take-le}
-use borrow.Author.Tests.{eq-eqb, ne_eqb, lt-ltb, eqb-true, eqb-false}
+use borrow.Author.Tests.{lt-ltb}
 use Rattle.picture.specs.Sizes.{Checked, refused, accepted, checked, size_of}
 use Rattle.definition.specs.Decode.{of_checked, result}
 use Rattle.tile_text.specs.Text.{text_of, Tile}
-use Rattle.tile_text.specs.Answer.{bad_tile_text, limited, answer_of, Answers, tile, no_tile}
+use Rattle.tile_text.specs.Answer.{limited, answer_of, Answers, tile, no_tile}
 use Rattle.tile_text.specs.Parse.{start, fed, fed_into}
-use Rattle.tile_text.specs.Reply.{decoded, reply_of, Replies, RepliesTo}
+use Rattle.tile_text.specs.Reply.{decoded, reply_on, reply_of, Replies, RepliesTo}
+use Rattle.tile_text.specs.declared.parser.Line.{Line}
+use Rattle.tile_text.specs.declared.parser.Line.TheVariants.{Width, Height, Bpp, Stream, Whole, Bad}
 use Rattle.tile_text.specs.declared.parser.Parser.{Parser}
-use Rattle.base.proofs.Tests.{by_less}
+use Rattle.base.proofs.Tests.{apart, by_less}
+use Rattle.tile_text.proofs.Replying.{not_whole}
 use Rattle.tile_text.proofs.Chunks.{joined, fed_chunks, into_chunks, chunks_fed, chunks_into}
 use Rattle.tile_text.proofs.Complete.{text-read, at_place, count_all}
-use Rattle.tile_text.proofs.Sound.{in_key_lem, in_number_lem, in_stream, at_end, Kept, Reads, failed, going, text-reads}
+use Rattle.tile_text.proofs.Sound.{in_key, in_number, in_stream, at_end, Kept, Reads, failed, going, text-reads}
 
 -- ---- the two directions
 
@@ -30,19 +27,19 @@ pub record TileRead (t : List ℕ) (p : Parser) (xs : List ℕ) : Type 0 where
   pub kept : Kept p stream xs
   pub text : t ≡ text_of p.width p.height p.bpp stream
 
-ended : (t : List ℕ) (p : Parser) (xs : List ℕ) → p.line ≡ 4 → Reads t p xs → TileRead t p xs
-ended t p xs e (failed f) = absurd (omega arith)
-ended t p xs e (going s k (in_key_lem l none z f)) = absurd (omega arith)
-ended t p xs e (going s k (in_number_lem l over small z f)) = absurd (omega arith)
-ended t p xs e (going s k (in_stream l over small f)) = absurd (omega arith)
+ended : (t : List ℕ) (p : Parser) (xs : List ℕ) → p.line ≡ Whole → Reads t p xs → TileRead t p xs
+ended t p xs e (failed f) = apart cc
+ended t p xs e (going s k (in_key l none z f)) = absurd (rw e at l)
+ended t p xs e (going s k (in_number l over small z f)) = absurd (rw e at l)
+ended t p xs e (going s k (in_stream l over small f)) = apart cc
 ended t p xs e (going s k (at_end l f)) = record { stream = s; kept = k; text = f }
 
 -- a text that is read whole is a tile's
-pub sound : (t xs : List ℕ) → length xs ≡ 8192 → (fed start t).line ≡ 4 → TileRead t (fed start t) (fed_into start xs t)
+pub sound : (t xs : List ℕ) → length xs ≡ 8192 → (fed start t).line ≡ Whole → TileRead t (fed start t) (fed_into start xs t)
 sound t xs e l = ended t (fed start t) (fed_into start xs t) l (text-reads t xs e)
 
 -- a tile's text is read whole, with the tile's numbers
-pub complete : (t : List ℕ) (w h b : ℕ) (s : List ℕ) → Tile w h b s → t ≡ text_of w h b s → fed start t ≡ at_place 4 7 w h b (count_all 0 s)
+pub complete : (t : List ℕ) (w h b : ℕ) (s : List ℕ) → Tile w h b s → t ≡ text_of w h b s → fed start t ≡ at_place Whole 0 w h b (count_all 0 s)
 complete t w h b s g e = ap (fed start) e ∙ text-read w h b s g
 
 -- ---- the answer
@@ -64,34 +61,34 @@ held_all n xs s e c h f =
     ext_get_or 0 (take n xs) s (l ∙ same)
     (λ i g. let low : i < n = subst (λ (m : ℕ). i < m) l g in get_or-take n xs i 0 low ∙ f i (omega arith) (omega arith))
 
-reply_of_tile : (t : List ℕ) (p : Parser) (xs : List ℕ) → p.line ≡ 4 → (r : TileRead t p xs)
+reply_of_tile : (t : List ℕ) (p : Parser) (xs : List ℕ) → p.line ≡ Whole → (r : TileRead t p xs)
     → reply_of p xs ≡ answer_of p.width p.height p.bpp r.stream
-unfolding reply_of answer_of decoded result
+unfolding reply_of reply_on answer_of decoded result
 reply_of_tile t p xs e r =
-    rw (eq-eqb p.line 4 e)
+    rw e
     (limited-result (checked p.bpp p.width p.height) p.count (take p.count xs) r.stream r.kept.count
     (λ few. held_all p.count xs r.stream r.kept.space r.kept.count few r.kept.held))
 
-reply_of_none : (p : Parser) (xs : List ℕ) → (p.line ≡ 4 → ⊥) → reply_of p xs ≡ bad_tile_text
-unfolding reply_of
-reply_of_none p xs h = rw (ne_eqb p.line 4 h)
-
-answered_by : (t xs : List ℕ) → length xs ≡ 8192 → (u : Bool) → eqb (fed start t).line 4 ≡ u
-    → Answers t (reply_of (fed start t) (fed_into start xs t))
-answered_by t xs e true whole =
-    let l = eqb-true (fed start t).line 4 whole in
-    let r = sound t xs e l in
-    let k = r.kept in
-    tile _ _ _ r.stream (record { width = k.width; height = k.height; bpp = k.bpp; bytes = k.bytes }) r.text
-    (reply_of_tile t (fed start t) (fed_into start xs t) l r)
-answered_by t xs e false other =
-    let l = eqb-false (fed start t).line 4 other in
-    no_tile (λ w h b s g f. l (ap (λ (p : Parser). p.line) (complete t w h b s g f)))
-    (reply_of_none (fed start t) (fed_into start xs t) l)
+whole_or_not : (l : Line) → (l ≡ Whole) ⊎ (l ≡ Whole → ⊥)
+whole_or_not Width = inr (λ no. apart cc)
+whole_or_not Height = inr (λ no. apart cc)
+whole_or_not Bpp = inr (λ no. apart cc)
+whole_or_not Stream = inr (λ no. apart cc)
+whole_or_not Whole = inl refl
+whole_or_not Bad = inr (λ no. apart cc)
 
 -- the answer after a text is the answer to the text
 pub answered : (t xs : List ℕ) → length xs ≡ 8192 → Answers t (reply_of (fed start t) (fed_into start xs t))
-answered t xs e = answered_by t xs e (eqb (fed start t).line 4) refl
+unfolding reply_of
+answered t xs e =
+    elim (whole_or_not (fed start t).line) [
+      | inl l ↦
+          let r = sound t xs e l in
+          let k = r.kept in
+          tile _ _ _ r.stream (record { width = k.width; height = k.height; bpp = k.bpp; bytes = k.bytes }) r.text
+          (reply_of_tile t (fed start t) (fed_into start xs t) l r)
+      | inr other ↦ no_tile (λ w h d s g f. other (ap (λ (p : Parser). p.line) (complete t w h d s g f))) (not_whole (fed start t).line _ other)
+    ]
 
 -- the same for a text that comes in chunks of any size
 pub chunks_answered : (cs : List (List ℕ)) (xs : List ℕ) → length xs ≡ 8192

@@ -1,55 +1,53 @@
 -- What a state has read: every state that the start leads to is one in the middle of a tile's text, with the stream's bytes so far in
 -- the array, or it has failed for good. Assumes nothing.
-use mathlib.Core.Path.{◌≡◌, refl, ◌∙◌, ap, sym, subst}
-use mathlib.Core.List.{List, [], ◌∷◌, ◌++◌, append_assoc, append-nil}
-use mathlib.Core.Bool.{Bool, true, false}
-use Prim.Native.Nat.{ℕ, zero, suc, ◌+◌, ◌*◌, ◌/◌, ◌%◌, ◌<◌, ◌≤◌, min}
-use native.Mathlib.Omega.{arith}
-use lib.Dec.{ltb, eqb}
-use lib.ListN.{length, get_or, take, set, length-append, length-set, get_or-append}
+use Rattle.std.proofs.Common.{◌≡◌, ℕ, ◌+◌, ◌*◌, ◌/◌, ◌%◌, ◌<◌, ◌≤◌, min, List, [], ◌∷◌, ◌++◌, Option, Some, None, ltb, length, get_or, take, set, slice_get, length-append, length-set, append_assoc, append-nil, refl, sym, ap, ◌∙◌, subst, arith}
+use lib.ListN.{get_or-append}
 use lib.Seq.{get_or-set_same, get_or-set_other, get_or-append_seam}
-use borrow.Author.Tests.{ltb-true, ltb-false, eqb-true, eqb-false}
-use Rattle.base.specs.Picks.{pick}
+use borrow.Author.Tests.{ltb-true, ltb-false}
 use Rattle.print.specs.Text.{ascii, line}
 use Rattle.print.specs.Digits.{decimal, hex_digit, hex_pairs}
 use Rattle.tile_text.specs.Text.{text_of, Bytes}
-use Rattle.tile_text.specs.Parse.{keys, key_byte, decimal_value, hex_value, start, on_line, bad, key_read, with_value, next_line, end_number, count_more, byte_read, goes_on, number_digit, step, ends_byte, stored, fed, fed_into}
+use Rattle.tile_text.specs.Parse.{key_of, hex_value, start, on_line, key_read, with_value, number_on, end_number, count_more, byte_read, grown, step, ended_byte, stored, fed, fed_into}
+use Rattle.tile_text.specs.declared.parser.Line.{Line}
+use Rattle.tile_text.specs.declared.parser.Line.TheVariants.{Width, Height, Bpp, Stream, Whole, Bad}
 use Rattle.tile_text.specs.declared.parser.Parser.{Parser}
-use Rattle.base.proofs.Tests.{by_test, by_less, clash}
-use Rattle.tile_text.proofs.Keys.{key_of, key_over, key_more}
+use Rattle.base.proofs.Tests.{apart, by_test, by_less}
+use Rattle.tile_text.proofs.Keys.{HasNumber, IsOpen, by_open, key_over, key_more}
 use Rattle.tile_text.proofs.Digits.{decimal_digit, hex_digit_lem}
 use Rattle.print.proofs.Printed.{decimal_small, decimal_more, pairs_append}
-use Rattle.tile_text.proofs.Steps.{going_on, step_key, step-number, step-stream, step_after, key_cases, number_cases, stream_cases, ends_elsewhere, ends-first, ends-second, stored_in, stored_past, stored_not}
+use Rattle.tile_text.proofs.Steps.{grown_more, key_cases, number_cases, stream_cases, step_whole, step_bad, ends_elsewhere, ends-first, ends-second, stored_in, stored_past, stored_not}
 
 -- ---- what is read
 
--- the lines before line l
-unfoldable pub lines_before : ℕ → ℕ → ℕ → ℕ → List ℕ
-lines_before zero w h b = []
-lines_before (suc zero) w h b = line (ascii "width=") (decimal w)
-lines_before (suc (suc zero)) w h b = line (ascii "width=") (decimal w) ++ line (ascii "height=") (decimal h)
-lines_before (suc (suc (suc l))) w h b =
+-- the lines before a line
+unfoldable pub lines_before : Line → ℕ → ℕ → ℕ → List ℕ
+lines_before Width w h b = []
+lines_before Height w h b = line (ascii "width=") (decimal w)
+lines_before Bpp w h b = line (ascii "width=") (decimal w) ++ line (ascii "height=") (decimal h)
+lines_before _ w h b =
     line (ascii "width=") (decimal w) ++ line (ascii "height=") (decimal h) ++ line (ascii "bpp=") (decimal b)
 
-abbrev pub front : ℕ → Parser → List ℕ
+abbrev pub front : Line → Parser → List ℕ
 front l p = lines_before l p.width p.height p.bpp
 
 -- the digits of a number so far
-abbrev pub digits : Parser → List ℕ
-digits p = pick p.begun (decimal p.value) []
+abbrev pub digits : Option ℕ → List ℕ
+digits None = []
+digits (Some v) = decimal v
 
 -- the first digit of a byte
-abbrev pub first_digit_lem : Parser → List ℕ
-first_digit_lem p = pick p.begun (hex_digit p.value ∷ []) []
+abbrev pub first_digit : Option ℕ → List ℕ
+first_digit None = []
+first_digit (Some v) = hex_digit v ∷ []
 
 -- t is what the state p has read, with s the stream's bytes so far
 pub data Seen (t : List ℕ) (p : Parser) (s : List ℕ) : Type 0 where
-  in_key_lem : p.line < 4 → p.begun ≡ false → s ≡ [] → t ≡ front p.line p ++ take p.place (key_of p.line) → Seen t p s
-  in_number_lem : p.line < 3 → key_byte p.line p.place ≡ 0 → (p.begun ≡ true → p.value < 100_000_000) → s ≡ []
-      → t ≡ front p.line p ++ (key_of p.line ++ digits p) → Seen t p s
-  in_stream : p.line ≡ 3 → key_byte p.line p.place ≡ 0 → (p.begun ≡ true → p.value < 16)
-      → t ≡ front 3 p ++ (ascii "stream=" ++ (hex_pairs s ++ first_digit_lem p)) → Seen t p s
-  at_end : p.line ≡ 4 → t ≡ text_of p.width p.height p.bpp s → Seen t p s
+  in_key : IsOpen p.line → p.value ≡ None → s ≡ [] → t ≡ front p.line p ++ take p.place (key_of p.line) → Seen t p s
+  in_number : HasNumber p.line → slice_get (key_of p.line) p.place ≡ None → ((v : ℕ) → p.value ≡ Some v → v < 100_000_000) → s ≡ []
+      → t ≡ front p.line p ++ (key_of p.line ++ digits p.value) → Seen t p s
+  in_stream : p.line ≡ Stream → slice_get (key_of p.line) p.place ≡ None → ((v : ℕ) → p.value ≡ Some v → v < 16)
+      → t ≡ front Stream p ++ (ascii "stream=" ++ (hex_pairs s ++ first_digit p.value)) → Seen t p s
+  at_end : p.line ≡ Whole → t ≡ text_of p.width p.height p.bpp s → Seen t p s
 
 -- what holds of the numbers and of the stream's array all along
 pub record Kept (p : Parser) (s xs : List ℕ) : Type 0 where
@@ -62,11 +60,10 @@ pub record Kept (p : Parser) (s xs : List ℕ) : Type 0 where
   pub held : (i : ℕ) → i < 8192 → i < length s → get_or xs i 0 ≡ get_or s i 0
 
 pub data Reads (t : List ℕ) (p : Parser) (xs : List ℕ) : Type 0 where
-  failed : p.line ≡ 5 → Reads t p xs
+  failed : p.line ≡ Bad → Reads t p xs
   going : (s : List ℕ) → Kept p s xs → Seen t p s → Reads t p xs
 
-fails : (t : List ℕ) (p : Parser) (xs : List ℕ) → Reads t (bad p) xs
-unfolding bad
+fails : (t : List ℕ) (p : Parser) (xs : List ℕ) → Reads t (on_line Bad p) xs
 fails t p xs = failed refl
 
 -- ---- texts, one byte longer
@@ -78,29 +75,25 @@ line_closed : (f key ds : List ℕ) → (f ++ (key ++ ds)) ++ (10 ∷ []) ≡ (f
 unfolding line
 line_closed f key ds = simp (append_assoc, append-nil)
 
-text_closed : (w h b : ℕ) (s : List ℕ) → (lines_before 3 w h b ++ (ascii "stream=" ++ (hex_pairs s ++ []))) ++ (10 ∷ []) ≡ text_of w h b s
+text_closed : (w h b : ℕ) (s : List ℕ) → (lines_before Stream w h b ++ (ascii "stream=" ++ (hex_pairs s ++ []))) ++ (10 ∷ []) ≡ text_of w h b s
 unfolding lines_before text_of
-text_closed w h b s = line_closed (lines_before 3 w h b) (ascii "stream=") (hex_pairs s ++ []) ∙ simp append-nil
+text_closed w h b s = line_closed (lines_before Stream w h b) (ascii "stream=") (hex_pairs s ++ []) ∙ simp append-nil
 
--- a number with one digit more, as `number_digit` has it
+-- a number with one digit more, as `grown` has it
 record Grown (v : ℕ) (before after : List ℕ) : Type 0 where
   small : v < 100_000_000
   text : decimal v ≡ before ++ after
 
-digits_grown : (p : Parser) (d : ℕ) → goes_on p ≡ true → d < 10
-    → Grown (pick p.begun (p.value * 10 + d) d) (digits p) ((48 + d) ∷ [])
-digits_grown p d g h = by_begun p.begun refl
-  where
-    by_begun : (u : Bool) → p.begun ≡ u → Grown (pick u (p.value * 10 + d) d) (pick u (decimal p.value) []) ((48 + d) ∷ [])
-    by_begun false none = record { small = omega arith; text = decimal_small d h }
-    by_begun true begun =
-        let v = going_on p begun g in
-        let q : (p.value * 10 + d) / 10 ≡ p.value = omega (arith, v) in
-        let r : (p.value * 10 + d) % 10 ≡ d = omega arith in
-        record {
-          small = omega (arith, v);
-          text = rw (q, r) at (decimal_more (p.value * 10 + d) (omega (arith, v)) (omega (arith, v)));
-        }
+digits_grown : (o : Option ℕ) (d w : ℕ) → grown o d ≡ Some w → d < 10 → Grown w (digits o) ((48 + d) ∷ [])
+unfolding grown
+digits_grown None d w g h =
+    let same : d ≡ w = cc in
+    record { small = omega arith; text = rw (← same) (decimal_small d h) }
+digits_grown (Some v) d w g h =
+    let more = grown_more v d w g in
+    let q : w / 10 ≡ v = omega arith in
+    let r : w % 10 ≡ d = omega arith in
+    record { small = omega arith; text = rw (q, r) at (decimal_more w (omega arith) (omega arith)) }
 
 pairs_grown : (s : List ℕ) (v d : ℕ) → v < 16 → d < 16 → hex_pairs (s ++ ((v % 16 * 16 + d) ∷ [])) ≡ (hex_pairs s ++ (hex_digit v ∷ [])) ++ (hex_digit d ∷ [])
 unfolding hex_pairs
@@ -122,7 +115,7 @@ module _ (t : List ℕ) (p : Parser) (s xs : List ℕ) (b : ℕ) (kept : Kept p 
   More q = Reads (t ++ (b ∷ [])) q (stored p xs b)
 
   -- the reading goes on to q, and nothing is stored
-  goes : (q : Parser) → ends_byte p b ≡ false → q.width < 100_000_000 → q.height < 100_000_000 → q.bpp < 100_000_000
+  goes : (q : Parser) → ended_byte p b ≡ None → q.width < 100_000_000 → q.height < 100_000_000 → q.bpp < 100_000_000
       → q.count ≡ p.count → Seen (t ++ (b ∷ [])) q s → More q
   goes q e w h d c seen =
       going s
@@ -130,56 +123,51 @@ module _ (t : List ℕ) (p : Parser) (s xs : List ℕ) (b : ℕ) (kept : Kept p 
       (record { width = w; height = h; bpp = d; bytes = kept.bytes; count = c ∙ kept.count; space = kept.space; held = kept.held }))
       seen
 
-  from_key : p.line < 4 → p.begun ≡ false → s ≡ [] → t ≡ front p.line p ++ take p.place (key_of p.line)
-      → 0 < key_byte p.line p.place → More (step p b)
-  from_key l none empty e more =
-      rw (step_key p b more)
-      (key_cases p b More
+  from_key : IsOpen p.line → p.value ≡ None → s ≡ [] → t ≡ front p.line p ++ take p.place (key_of p.line)
+      → (k : ℕ) → slice_get (key_of p.line) p.place ≡ Some k → More (step p b)
+  from_key l none empty e k more =
+      key_cases p b More k more
       (λ same. goes (key_read p) (ends-first p b none) kept.width kept.height kept.bpp refl
-      (in_key_lem l none empty
-      (rw (e, append_assoc, key_more p.line p.place more) (ap (λ (x : ℕ). front p.line p ++ (take p.place (key_of p.line) ++ (x ∷ []))) same))))
-      (fails _ p _))
+      (in_key l none empty
+      (rw (e, append_assoc, key_more p.line p.place k more) (ap (λ (x : ℕ). front p.line p ++ (take p.place (key_of p.line) ++ (x ∷ []))) same))))
+      (fails _ p _)
 
   -- ---- numbers
 
-  module _ (l : p.line < 3) (empty : s ≡ []) where
-    in_number : ends_byte p b ≡ false
-    in_number = ends_elsewhere p b (λ e. omega arith)
+  module _ (l : HasNumber p.line) (empty : s ≡ []) where
+    -- the line m ends, and the line n comes, with the width w, the height h and the depth d
+    line-ends : (v : ℕ) (m n : Line) (w h d : ℕ) → b ≡ 10 → IsOpen n → w < 100_000_000 → h < 100_000_000 → d < 100_000_000
+        → t ≡ front m p ++ (key_of m ++ decimal v) → lines_before n w h d ≡ front m p ++ line (key_of m) (decimal v)
+        → More (record (on_line n p) { width = w; height = h; bpp = d })
+    line-ends v m n w h d lf opens fw fh fd e lines =
+        goes (record (on_line n p) { width = w; height = h; bpp = d }) (ends_elsewhere p b l) fw fh fd refl
+        (in_key opens refl empty (rw (lf, lines, e) (line_closed (front m p) (key_of m) (decimal v))))
 
-    -- line i ends, and its number is the width w, the height h or the depth d
-    line-ends : (i w h d : ℕ) → p.line ≡ i → b ≡ 10 → w < 100_000_000 → h < 100_000_000 → d < 100_000_000
-        → t ≡ front p.line p ++ (key_of p.line ++ decimal p.value)
-        → lines_before (i + 1) w h d ≡ front i p ++ line (key_of i) (decimal p.value) → More (next_line p w h d)
-    line-ends i w h d at lf fw fh fd e lines =
-        goes (next_line p w h d) in_number fw fh fd refl
-        (in_key_lem (omega arith) refl empty (rw (at, lf, lines, e, at) (line_closed (front i p) (key_of i) (decimal p.value))))
+    number-ends : (v : ℕ) → b ≡ 10 → v < 100_000_000 → t ≡ front p.line p ++ (key_of p.line ++ decimal v) → More (end_number p v)
+    unfolding end_number number_on lines_before key_of
+    number-ends v lf small e = on p.line l e
+      where
+        on : (m : Line) → HasNumber m → t ≡ front m p ++ (key_of m ++ decimal v) → More (number_on m p v)
+        on Width h e = line-ends v Width Height v p.height p.bpp lf tt small kept.height kept.bpp e refl
+        on Height h e = line-ends v Height Bpp p.width v p.bpp lf tt kept.width small kept.bpp e refl
+        on Bpp h e = line-ends v Bpp Stream p.width p.height v lf tt kept.width kept.height small e refl
+        on Stream h e = absurd h
+        on Whole h e = absurd h
+        on Bad h e = absurd h
 
-    number-ends : b ≡ 10 → p.value < 100_000_000 → t ≡ front p.line p ++ (key_of p.line ++ decimal p.value) → More (end_number p)
-    unfolding end_number lines_before keys
-    number-ends lf small e =
-        by_test More (eqb p.line 0)
-        (λ at. line-ends 0 p.value p.height p.bpp (eqb-true _ _ at) lf small kept.height kept.bpp e refl)
-        (λ not0. by_test More (eqb p.line 1)
-        (λ at. line-ends 1 p.width p.value p.bpp (eqb-true _ _ at) lf kept.width small kept.bpp e refl)
-        (λ not1.
-        let at : p.line ≡ 2 = omega (arith, eqb-false p.line 0 not0, eqb-false p.line 1 not1) in
-        line-ends 2 p.width p.height p.value at lf kept.width kept.height small e refl))
-
-    from-number : key_byte p.line p.place ≡ 0 → (p.begun ≡ true → p.value < 100_000_000)
-        → t ≡ front p.line p ++ (key_of p.line ++ digits p) → More (step p b)
-    unfolding number_digit
+    from-number : slice_get (key_of p.line) p.place ≡ None → ((v : ℕ) → p.value ≡ Some v → v < 100_000_000)
+        → t ≡ front p.line p ++ (key_of p.line ++ digits p.value) → More (step p b)
     from-number over small e =
-        rw (step-number p b over l)
-        (number_cases p b More
-        (λ lf begun. number-ends lf (small begun) (rw begun at e))
-        (λ digit more.
-        let d = decimal_digit b digit in
-        let v = digits_grown p (decimal_value b) more d.small in
-        goes (number_digit p (decimal_value b)) in_number kept.width kept.height kept.bpp refl
-        (in_number_lem l over (λ _. v.small) empty
+        number_cases p b over More l
+        (λ v lf begun. number-ends v lf (small v begun) (rw begun at e))
+        (λ d v digit more.
+        let c = decimal_digit b d digit in
+        let g = digits_grown p.value d v more c.small in
+        goes (with_value v p) (ends_elsewhere p b l) kept.width kept.height kept.bpp refl
+        (in_number l over (λ u same. let w : u ≡ v = cc in rw w g.small) empty
         (ap (λ (u : List ℕ). u ++ (b ∷ [])) e
-        ∙ longer (front p.line p) (key_of p.line) (digits p) _ b (v.text ∙ rw (← d.code)))))
-        (fails _ p _))
+        ∙ longer (front p.line p) (key_of p.line) (digits p.value) _ b (g.text ∙ rw (← c.code)))))
+        (fails _ p _)
 
   -- ---- the stream
 
@@ -222,63 +210,70 @@ module _ (t : List ℕ) (p : Parser) (s xs : List ℕ) (b : ℕ) (kept : Kept p 
           held = held;
         }
 
-    kept-stored : ends_byte p b ≡ true → p.value % 16 * 16 + hex_value b ≡ x → Kept (byte_read p) (s ++ (x ∷ [])) (stored p xs b)
-    kept-stored e same =
+    kept-stored : ended_byte p b ≡ Some x → Kept (byte_read p) (s ++ (x ∷ [])) (stored p xs b)
+    kept-stored e =
         by_less p.count 8192
-        (λ low. subst (λ (ys : List ℕ). Kept (byte_read p) (s ++ (x ∷ [])) ys) (stored_in p b xs (hex_value b) e refl low)
-        (rw same (kept_more (set xs p.count x) (length-set xs p.count x ∙ kept.space) (held_more low))))
-        (λ high. subst (λ (ys : List ℕ). Kept (byte_read p) (s ++ (x ∷ [])) ys) (stored_past p b xs e high) (kept_more xs kept.space (held_past high)))
+        (λ low. subst (λ (ys : List ℕ). Kept (byte_read p) (s ++ (x ∷ [])) ys) (stored_in p b xs x e low)
+        (kept_more (set xs p.count x) (length-set xs p.count x ∙ kept.space) (held_more low)))
+        (λ high. subst (λ (ys : List ℕ). Kept (byte_read p) (s ++ (x ∷ [])) ys) (stored_past p b xs x e high) (kept_more xs kept.space (held_past high)))
 
-  byte_ends : p.line ≡ 3 → key_byte p.line p.place ≡ 0 → p.value < 16 → p.begun ≡ true → hex_value b < 16
-      → t ≡ front 3 p ++ (ascii "stream=" ++ (hex_pairs s ++ (hex_digit p.value ∷ []))) → More (byte_read p)
-  unfolding byte_read
-  byte_ends l over small begun digit e =
-      let x : ℕ = p.value % 16 * 16 + hex_value b in
-      let byte : x < 256 = omega arith in
-      going (s ++ (x ∷ [])) (kept-stored x byte (ends-second p b l begun digit) refl)
-      (in_stream l over (λ no. clash no refl)
-      (ap (λ (u : List ℕ). u ++ (b ∷ [])) e
-      ∙ longer (front 3 p) (ascii "stream=") (hex_pairs s ++ (hex_digit p.value ∷ [])) _ b
-      (append-nil (hex_pairs (s ++ (x ∷ []))) ∙ pairs_grown s p.value (hex_value b) small digit
-      ∙ ap (λ (c : ℕ). (hex_pairs s ++ (hex_digit p.value ∷ [])) ++ (c ∷ [])) (sym (hex_digit_lem b digit)))))
+  module _ (l : p.line ≡ Stream) (over : slice_get (key_of p.line) p.place ≡ None) where
+    byte_ends : (v d : ℕ) → v < 16 → p.value ≡ Some v → hex_value b ≡ Some d
+        → t ≡ front Stream p ++ (ascii "stream=" ++ (hex_pairs s ++ (hex_digit v ∷ []))) → More (byte_read p)
+    unfolding byte_read
+    byte_ends v d small begun digit e =
+        let c = hex_digit_lem b d digit in
+        let x : ℕ = v % 16 * 16 + d in
+        let byte : x < 256 = omega arith in
+        going (s ++ (x ∷ [])) (kept-stored x byte (ends-second p b v d l begun digit))
+        (in_stream l over (λ _ no. apart cc)
+        (ap (λ (u : List ℕ). u ++ (b ∷ [])) e
+        ∙ longer (front Stream p) (ascii "stream=") (hex_pairs s ++ (hex_digit v ∷ [])) _ b
+        (append-nil (hex_pairs (s ++ (x ∷ []))) ∙ pairs_grown s v d small c.small
+        ∙ ap (λ (k : ℕ). (hex_pairs s ++ (hex_digit v ∷ [])) ++ (k ∷ [])) (sym c.code))))
 
-  from-stream : p.line ≡ 3 → key_byte p.line p.place ≡ 0 → (p.begun ≡ true → p.value < 16)
-      → t ≡ front 3 p ++ (ascii "stream=" ++ (hex_pairs s ++ first_digit_lem p)) → More (step p b)
-  from-stream l over small e =
-      rw (step-stream p b over l)
-      (stream_cases p b More
-      (λ lf none. goes (on_line 4 p) (ends-first p b none) kept.width kept.height kept.bpp refl
-      (at_end refl (rw (rw none at e, lf) (text_closed p.width p.height p.bpp s))))
-      (λ digit begun. byte_ends l over (small begun) begun digit (rw begun at e))
-      (λ digit none. goes (with_value (hex_value b) p) (ends-first p b none) kept.width kept.height kept.bpp refl
-      (in_stream l over (λ _. digit)
-      (ap (λ (u : List ℕ). u ++ (b ∷ [])) (rw none at e)
-      ∙ longer (front 3 p) (ascii "stream=") (hex_pairs s ++ []) _ b
-      (rw append-nil (ap (λ (x : ℕ). hex_pairs s ++ (x ∷ [])) (sym (hex_digit_lem b digit)))))))
-      (fails _ p _))
+    from-stream : ((v : ℕ) → p.value ≡ Some v → v < 16) → t ≡ front Stream p ++ (ascii "stream=" ++ (hex_pairs s ++ first_digit p.value))
+        → More (step p b)
+    from-stream small e =
+        stream_cases p b over More l
+        (λ lf none. goes (on_line Whole p) (ends-first p b none) kept.width kept.height kept.bpp refl
+        (at_end refl (rw (rw none at e, lf) (text_closed p.width p.height p.bpp s))))
+        (λ d digit none.
+        let c = hex_digit_lem b d digit in
+        goes (with_value d p) (ends-first p b none) kept.width kept.height kept.bpp refl
+        (in_stream l over (λ u same. let w : u ≡ d = cc in rw w c.small)
+        (ap (λ (u : List ℕ). u ++ (b ∷ [])) (rw none at e)
+        ∙ longer (front Stream p) (ascii "stream=") (hex_pairs s ++ []) _ b
+        (rw append-nil (ap (λ (x : ℕ). hex_pairs s ++ (x ∷ [])) (sym c.code))))))
+        (λ v d digit begun. byte_ends v d (small v begun) begun digit (rw begun at e))
+        (fails _ p _)
 
   -- at the key's end: a number's first digit, or the stream's
-  from_key_end : p.line < 4 → p.begun ≡ false → s ≡ [] → t ≡ front p.line p ++ take p.place (key_of p.line)
-      → key_byte p.line p.place ≡ 0 → More (step p b)
-  unfolding hex_pairs keys
+  from_key_end : IsOpen p.line → p.value ≡ None → s ≡ [] → t ≡ front p.line p ++ take p.place (key_of p.line)
+      → slice_get (key_of p.line) p.place ≡ None → More (step p b)
+  unfolding hex_pairs key_of
   from_key_end l none empty e over =
       let read : t ≡ front p.line p ++ key_of p.line = e ∙ ap (λ (u : List ℕ). front p.line p ++ u) (key_over p.line p.place over) in
-      by_less p.line 3 (λ low. from-number low empty over (λ begun. clash begun none) (rw none (read ∙ ap (λ (u : List ℕ). front p.line p ++ u) (sym (append-nil (key_of p.line))))))
-      (λ high.
-      let last : p.line ≡ 3 = omega arith in
-      from-stream last over (λ begun. clash begun none) (read ∙ rw (last, empty, none) (rw append-nil)))
+      by_open p.line l
+      (λ number. from-number number empty over (λ _ begun. apart cc)
+      (rw none (read ∙ ap (λ (u : List ℕ). front p.line p ++ u) (sym (append-nil (key_of p.line))))))
+      (λ last. from-stream last over (λ _ begun. apart cc) (read ∙ rw (last, empty, none) (rw append-nil)))
+
+  from_open : IsOpen p.line → p.value ≡ None → s ≡ [] → t ≡ front p.line p ++ take p.place (key_of p.line)
+      → (o : Option ℕ) → slice_get (key_of p.line) p.place ≡ o → More (step p b)
+  from_open l none empty e None over = from_key_end l none empty e over
+  from_open l none empty e (Some k) more = from_key l none empty e k more
 
   from_seen : Seen t p s → More (step p b)
-  from_seen (in_key_lem l none empty e) =
-      by_less 0 (key_byte p.line p.place) (λ more. from_key l none empty e more) (λ over. from_key_end l none empty e (omega arith))
-  from_seen (in_number_lem l over small empty e) = from-number l empty over small e
+  from_seen (in_key l none empty e) = from_open l none empty e _ refl
+  from_seen (in_number l over small empty e) = from-number l empty over small e
   from_seen (in_stream l over small e) = from-stream l over small e
-  from_seen (at_end l e) = rw (step_after p b (omega arith)) (fails _ p _)
+  from_seen (at_end l e) = rw (step_whole p b l) (fails _ p _)
 
 -- ---- a whole text
 
 reads_more : (t : List ℕ) (p : Parser) (xs : List ℕ) (b : ℕ) → Reads t p xs → Reads (t ++ (b ∷ [])) (step p b) (stored p xs b)
-reads_more t p xs b (failed e) = rw (step_after p b (omega arith)) (fails _ p _)
+reads_more t p xs b (failed e) = rw (step_bad p b e) (fails _ p _)
 reads_more t p xs b (going s k seen) = from_seen t p s xs b k seen
 
 reads_on : (t u : List ℕ) (p : Parser) (xs : List ℕ) → Reads t p xs → Reads (t ++ u) (fed p u) (fed_into p xs u)
@@ -300,7 +295,7 @@ reads-start xs e =
       space = e;
       held = λ i h g. absurd (omega arith);
     })
-    (in_key_lem (omega arith) refl refl refl)
+    (in_key tt refl refl refl)
 
 -- the state after a text, from the start
 pub text-reads : (t xs : List ℕ) → length xs ≡ 8192 → Reads t (fed start t) (fed_into start xs t)

@@ -1,117 +1,143 @@
 -- What a byte does to the state and to the stream's array, case by case. Assumes nothing.
-use mathlib.Core.Path.{◌≡◌, refl}
-use mathlib.Core.List.{List}
-use mathlib.Core.Bool.{true, false}
-use Prim.Native.Nat.{ℕ, ◌+◌, ◌*◌, ◌%◌, ◌<◌, ◌≤◌}
-use native.Mathlib.Omega.{arith}
-use lib.Dec.{ltb, eqb}
-use lib.ListN.{set}
-use borrow.Author.Tests.{eq-eqb, ne_eqb, lt-ltb, le-ltb, ltb-true, eqb-true, eqb-false}
-use Rattle.tile_text.specs.Parse.{key_byte, decimal_value, hex_value, on_line, bad, key_read, with_value, end_number, byte_read, goes_on, number_digit, value_step, number_step, stream_step, key_step, step, ends_byte, stored}
+use Rattle.std.proofs.Common.{◌≡◌, ℕ, ◌+◌, ◌*◌, ◌%◌, ◌<◌, ◌≤◌, List, Option, Some, None, eqb, ltb, set, slice_get, option_map, option_and_then, unwrap_or, refl, arith}
+use borrow.Author.Tests.{lt-ltb, le-ltb, ltb-true, eqb-true, eqb-false}
+use Rattle.tile_text.specs.Parse.{key_of, decimal_value, hex_value, on_line, key_read, with_value, end_number, byte_read, grown, number_step, digit_of, stream_step, after_key, in_key, next, step, byte_on, ended_byte, put, stored}
+use Rattle.tile_text.specs.declared.parser.Line.{Line}
+use Rattle.tile_text.specs.declared.parser.Line.TheVariants.{Width, Height, Bpp, Stream, Whole, Bad}
 use Rattle.tile_text.specs.declared.parser.Parser.{Parser}
-use Rattle.base.proofs.Tests.{by_test, clash}
-use Rattle.tile_text.proofs.Keys.{past_lines}
+use Rattle.base.proofs.Tests.{apart, by_test}
+use Rattle.tile_text.proofs.Keys.{HasNumber}
 
--- a number that is begun and goes on isn't 0, and is below 10,000,000
-pub going_on : (p : Parser) → p.begun ≡ true → goes_on p ≡ true → (0 < p.value) × (p.value < 10_000_000)
-unfolding goes_on
-going_on p begun g =
-    by_test (λ u. u ≡ true → (0 < p.value) × (p.value < 10_000_000)) (eqb p.value 0) (λ _ no. clash no refl)
-    (λ other less. (omega (arith, eqb-false p.value 0 other), ltb-true _ _ less)) (simp begun at g)
+-- ---- options
 
--- ---- the byte b after a key, of value d as a digit
+-- what holds of each value, and where there is none
+mapped : {A B : Type 0} (Q : B → Type 0) (f : A → B) (o : Option A) (d : B) → ((x : A) → o ≡ Some x → Q (f x)) → Q d
+    → Q (unwrap_or (option_map f o) d)
+mapped Q f None d g h = h
+mapped Q f (Some x) d g h = g x refl
 
-module _ (p : Parser) (b d : ℕ) (ended read : Parser) where
-  pub value_ended : b ≡ 10 → value_step p b d ended read ≡ ended
-  unfolding value_step
-  value_ended e = rw (eq-eqb _ _ e)
+record Both (A B : Type 0) (m : Option A) (f : A → Option B) (y : B) : Type 0 where
+  first : A
+  there : m ≡ Some first
+  second : f first ≡ Some y
 
-  module _ (other : b ≡ 10 → ⊥) {c : ℕ} (same : c ≡ d) where
-    pub value_none : 16 ≤ c → value_step p b d ended read ≡ bad p
-    unfolding value_step
-    value_none h = rw (ne_eqb _ _ other, ← same, le-ltb _ _ h)
+chained : {A B : Type 0} (m : Option A) (f : A → Option B) (y : B) → option_and_then f m ≡ Some y → Both A B m f y
+chained None f y e = apart cc
+chained (Some x) f y e = record { first = x; there = refl; second = e }
 
-    pub value_read : c < 16 → value_step p b d ended read ≡ read
-    unfolding value_step
-    value_read h = rw (ne_eqb _ _ other, ← same, lt-ltb _ _ h)
+-- a number with a digit more has at most eight digits, and more than a 0 before it
+pub record Grows (v d w : ℕ) : Type 0 where
+  pub begun : 0 < v
+  pub small : v < 10_000_000
+  pub value : w ≡ v * 10 + d
 
-  value_cases : (Q : Parser → Type 0) → (b ≡ 10 → Q ended) → (d < 16 → Q read) → Q (bad p) → Q (value_step p b d ended read)
-  unfolding value_step
-  value_cases Q f g h =
-      by_test Q (eqb b 10) (λ t. f (eqb-true _ _ t)) (λ _. by_test Q (ltb d 16) (λ t. g (ltb-true _ _ t)) (λ _. h))
+pub grown_more : (v d w : ℕ) → grown (Some v) d ≡ Some w → Grows v d w
+unfolding grown
+grown_more v d w =
+    by_test (λ o. o ≡ Some w → Grows v d w) (eqb v 0) (λ _ e. apart cc)
+    (λ other. by_test (λ o. o ≡ Some w → Grows v d w) (ltb v 10_000_000)
+    (λ less e.
+    let pos = eqb-false v 0 other in
+    record { begun = omega arith; small = ltb-true _ _ less; value = cc })
+    (λ _ e. apart cc))
 
 module _ (p : Parser) (b : ℕ) where
-  -- ---- the state
+  -- ---- in a key
 
-  pub step_key : 0 < key_byte p.line p.place → step p b ≡ key_step p b
-  unfolding step
-  step_key h = rw (lt-ltb _ _ h)
+  pub key_cases : (Q : Parser → Type 0) (k : ℕ) → slice_get (key_of p.line) p.place ≡ Some k → (b ≡ k → Q (key_read p)) → Q (on_line Bad p) → Q (step p b)
+  unfolding step next in_key
+  key_cases Q k e f g = rw e (by_test (λ o. Q (unwrap_or o (on_line Bad p))) (eqb b k) (λ t. f (eqb-true _ _ t)) (λ _. g))
 
-  pub step-number : key_byte p.line p.place ≡ 0 → p.line < 3 → step p b ≡ number_step p b
-  unfolding step
-  step-number k h = rw (k, lt-ltb _ _ h)
+  -- ---- after a key
 
-  pub step-stream : key_byte p.line p.place ≡ 0 → p.line ≡ 3 → step p b ≡ stream_step p b
-  unfolding step
-  step-stream k e = rw (k, le-ltb p.line 3 (omega arith), eq-eqb _ _ e)
+  number_after : (l : Line) → HasNumber l → after_key l p b ≡ number_step p b
+  unfolding after_key
+  number_after Width h = refl
+  number_after Height h = refl
+  number_after Bpp h = refl
+  number_after Stream h = absurd h
+  number_after Whole h = absurd h
+  number_after Bad h = absurd h
 
-  pub step_after : 4 ≤ p.line → step p b ≡ bad p
-  unfolding step
-  step_after h =
-      let no : p.line ≡ 3 → ⊥ = (λ e. omega arith) in
-      rw (past_lines p.line p.place h, le-ltb p.line 3 (omega arith), ne_eqb p.line 3 no)
+  module _ (over : slice_get (key_of p.line) p.place ≡ None) where
+    pub step-number : HasNumber p.line → step p b ≡ unwrap_or (number_step p b) (on_line Bad p)
+    unfolding step next in_key
+    step-number h = rw (over, number_after p.line h)
 
-  pub key_cases : (Q : Parser → Type 0) → (b ≡ key_byte p.line p.place → Q (key_read p)) → Q (bad p) → Q (key_step p b)
-  unfolding key_step
-  key_cases Q f g = by_test Q (eqb b (key_byte p.line p.place)) (λ t. f (eqb-true _ _ t)) (λ _. g)
+    pub step-stream : p.line ≡ Stream → step p b ≡ unwrap_or (digit_of p.value p b) (on_line Bad p)
+    unfolding step next in_key after_key stream_step
+    step-stream e = rw (over, e)
 
-  pub number_cases : (Q : Parser → Type 0) → (b ≡ 10 → p.begun ≡ true → Q (end_number p))
-      → (decimal_value b < 16 → goes_on p ≡ true → Q (number_digit p (decimal_value b))) → Q (bad p) → Q (number_step p b)
-  unfolding number_step
-  number_cases Q f g h =
-      value_cases p b _ _ _ Q (λ e. by_test Q p.begun (f e) (λ _. h)) (λ d. by_test Q (goes_on p) (g d) (λ _. h)) h
+    pub number_cases : (Q : Parser → Type 0) → HasNumber p.line → ((v : ℕ) → b ≡ 10 → p.value ≡ Some v → Q (end_number p v))
+        → ((d v : ℕ) → decimal_value b ≡ Some d → grown p.value d ≡ Some v → Q (with_value v p)) → Q (on_line Bad p) → Q (step p b)
+    unfolding number_step
+    number_cases Q l f g h =
+        rw (step-number l)
+        (by_test (λ o. Q (unwrap_or o (on_line Bad p))) (eqb b 10) (λ t. mapped Q _ p.value _ (λ v e. f v (eqb-true _ _ t) e) h)
+        (λ _. mapped Q _ _ _ (λ v e. let c = chained _ _ v e in g c.first v c.there c.second) h))
 
-  pub stream_cases : (Q : Parser → Type 0) → (b ≡ 10 → p.begun ≡ false → Q (on_line 4 p))
-      → (hex_value b < 16 → p.begun ≡ true → Q (byte_read p)) → (hex_value b < 16 → p.begun ≡ false → Q (with_value (hex_value b) p))
-      → Q (bad p) → Q (stream_step p b)
-  unfolding stream_step
-  stream_cases Q f g h k =
-      value_cases p b _ _ _ Q (λ e. by_test Q p.begun (λ _. k) (f e)) (λ d. by_test Q p.begun (g d) (h d)) k
+    pub stream_cases : (Q : Parser → Type 0) → p.line ≡ Stream → (b ≡ 10 → p.value ≡ None → Q (on_line Whole p))
+        → ((d : ℕ) → hex_value b ≡ Some d → p.value ≡ None → Q (with_value d p))
+        → ((v d : ℕ) → hex_value b ≡ Some d → p.value ≡ Some v → Q (byte_read p)) → Q (on_line Bad p) → Q (step p b)
+    unfolding digit_of
+    stream_cases Q l f g h k = rw (step-stream l) (by_value p.value refl)
+      where
+        by_value : (o : Option ℕ) → p.value ≡ o → Q (unwrap_or (digit_of o p b) (on_line Bad p))
+        by_value None e =
+            by_test (λ o. Q (unwrap_or o (on_line Bad p))) (eqb b 10) (λ t. f (eqb-true _ _ t) e) (λ _. mapped Q _ _ _ (λ d i. g d i e) k)
+        by_value (Some v) e = mapped Q _ _ _ (λ d i. h v d i e) k
+
+  -- ---- no byte may follow
+
+  pub step_whole : p.line ≡ Whole → step p b ≡ on_line Bad p
+  unfolding step next in_key key_of after_key
+  step_whole e = rw e
+
+  pub step_bad : p.line ≡ Bad → step p b ≡ on_line Bad p
+  unfolding step next in_key key_of after_key
+  step_bad e = rw e
 
   -- ---- which digits end a byte
 
-  pub ends_elsewhere : (p.line ≡ 3 → ⊥) → ends_byte p b ≡ false
-  unfolding ends_byte
-  ends_elsewhere other = rw (ne_eqb p.line 3 other)
+  pub ends_elsewhere : HasNumber p.line → ended_byte p b ≡ None
+  unfolding ended_byte byte_on
+  ends_elsewhere h = on p.line h
+    where
+      on : (l : Line) → HasNumber l → byte_on l p.value b ≡ None
+      on Width h = refl
+      on Height h = refl
+      on Bpp h = refl
+      on Stream h = absurd h
+      on Whole h = absurd h
+      on Bad h = absurd h
 
-  pub ends-first : p.begun ≡ false → ends_byte p b ≡ false
-  unfolding ends_byte
-  ends-first e = rw e (by_test (λ t. t ≡ false) (eqb p.line 3) (λ _. refl) (λ _. refl))
+  pub ends-first : p.value ≡ None → ended_byte p b ≡ None
+  unfolding ended_byte byte_on
+  ends-first e = rw e (on p.line)
+    where
+      on : (l : Line) → byte_on l None b ≡ None
+      on Width = refl
+      on Height = refl
+      on Bpp = refl
+      on Stream = refl
+      on Whole = refl
+      on Bad = refl
 
-  pub ends-second : p.line ≡ 3 → p.begun ≡ true → hex_value b < 16 → ends_byte p b ≡ true
-  unfolding ends_byte
-  ends-second e f h = rw (eq-eqb _ _ e, f, lt-ltb _ _ h)
-
-  -- a digit that ends a byte is one
-  pub ending_digit : {d : ℕ} → ends_byte p b ≡ true → d ≡ hex_value b → d < 16
-  unfolding ends_byte
-  ending_digit ends e =
-      rw e
-      (by_test (λ t. t ≡ true → hex_value b < 16) (eqb p.line 3)
-      (λ _. by_test (λ t. t ≡ true → hex_value b < 16) p.begun (λ _ less. ltb-true _ _ less) (λ _ no. clash no refl))
-      (λ _ no. clash no refl) ends)
+  pub ends-second : (v d : ℕ) → p.line ≡ Stream → p.value ≡ Some v → hex_value b ≡ Some d → ended_byte p b ≡ Some (v % 16 * 16 + d)
+  unfolding ended_byte byte_on
+  ends-second v d e f h = rw (e, f, h)
 
   -- ---- the stream's array
 
   module _ (xs : List ℕ) where
-    pub stored_in : (d : ℕ) → ends_byte p b ≡ true → d ≡ hex_value b → p.count < 8192 → set xs p.count (p.value % 16 * 16 + d) ≡ stored p xs b
-    unfolding stored
-    stored_in d e f h = rw (e, lt-ltb _ _ h, f)
+    pub stored_in : (x : ℕ) → ended_byte p b ≡ Some x → p.count < 8192 → set xs p.count x ≡ stored p xs b
+    unfolding stored put
+    stored_in x e h = rw (e, lt-ltb _ _ h)
 
-    pub stored_past : ends_byte p b ≡ true → 8192 ≤ p.count → xs ≡ stored p xs b
-    unfolding stored
-    stored_past e h = rw (e, le-ltb _ _ h)
+    pub stored_past : (x : ℕ) → ended_byte p b ≡ Some x → 8192 ≤ p.count → xs ≡ stored p xs b
+    unfolding stored put
+    stored_past x e h = rw (e, le-ltb _ _ h)
 
-    pub stored_not : ends_byte p b ≡ false → xs ≡ stored p xs b
-    unfolding stored
+    pub stored_not : ended_byte p b ≡ None → xs ≡ stored p xs b
+    unfolding stored put
     stored_not e = rw e

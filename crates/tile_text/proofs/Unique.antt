@@ -17,7 +17,7 @@ use Rattle.tile_text.proofs.Digits.{hex_value_lem}
 use Rattle.tile_text.proofs.Inverse.{complete}
 
 same_digit : (c d : ℕ) → c < 16 → d < 16 → hex_digit c ≡ hex_digit d → c ≡ d
-same_digit c d h g e = sym (hex_value_lem c h) ∙ ap hex_value e ∙ hex_value_lem d g
+same_digit c d h g e = let same = sym (hex_value_lem c h) ∙ ap hex_value e ∙ hex_value_lem d g in cc
 
 pairs_unique : (s u : List ℕ) → Bytes s → Bytes u → hex_pairs s ++ (10 ∷ []) ≡ hex_pairs u ++ (10 ∷ []) → s ≡ u
 unfolding hex_pairs Bytes

@@ -1,68 +1,69 @@
 -- Reading a tile text one byte at a time, by a state of a few numbers and an array for the stream's first 8,192 bytes: what `feed`
 -- computes, for every state. `proofs/Inverse.antt` shows that it undoes `text_of`: a state reached from the start has read a whole text
 -- exactly if the text is some tile's.
-use Rattle.std.specs.Prelude.{List, [], ◌∷◌, Bool, true, false, ℕ, ◌+◌, ◌-◌, ◌*◌, ◌%◌, ltb, leb, eqb, get_or, set}
+use Rattle.std.specs.Prelude.{List, [], ◌∷◌, ℕ, ◌+◌, ◌-◌, ◌*◌, ◌%◌, ltb, leb, eqb, set, slice_get, Option, Some, None, option_map, option_and_then, unwrap_or}
 use Rattle.base.specs.Picks.{pick}
 use Rattle.print.specs.Text.{ascii}
+use Rattle.tile_text.specs.declared.parser.Line.{Line}
+use Rattle.tile_text.specs.declared.parser.Line.TheVariants.{Width, Height, Bpp, Stream, Whole, Bad}
 use Rattle.tile_text.specs.declared.parser.Parser.{Parser}
 
--- the lines' keys; line 4: the text is read whole; line 5: it is no tile text
-unfoldable pub keys : List (List ℕ)
-keys = ascii "width=" ∷ ascii "height=" ∷ ascii "bpp=" ∷ ascii "stream=" ∷ []
+-- what a line begins with
+unfoldable pub key_of : Line → List ℕ
+key_of Width = ascii "width="
+key_of Height = ascii "height="
+key_of Bpp = ascii "bpp="
+key_of Stream = ascii "stream="
+key_of Whole = []
+key_of Bad = []
 
--- the byte at a place of a line's key; 0: the key is read
-unfoldable pub key_byte : ℕ → ℕ → ℕ
-key_byte l place = get_or (get_or keys l []) place 0
+-- the value of b as one of the digits from `first` to `last`, the first of which is worth `least`
+unfoldable pub digit_among : ℕ → ℕ → ℕ → ℕ → Option ℕ
+digit_among b first last least = pick (ltb b first) None (pick (ltb last b) None (Some (b - first + least)))
 
--- the value of b as one of the digits from `first` to `last`, the first of which is worth `least`; 16: it is none of them
-unfoldable pub digit_among : ℕ → ℕ → ℕ → ℕ → ℕ
-digit_among b first last least = pick (ltb b first) 16 (pick (ltb last b) 16 (b - first + least))
-
--- the value of a decimal digit, `0` to `9`; 16: it is none
-abbrev pub decimal_value : ℕ → ℕ
+-- the value of a decimal digit, `0` to `9`
+abbrev pub decimal_value : ℕ → Option ℕ
 decimal_value b = digit_among b 48 57 0
 
--- the value of a lower-case hexadecimal digit, which is decimal or `a` to `f`; 16: it is none
-unfoldable pub hex_value : ℕ → ℕ
+-- the value of a lower-case hexadecimal digit, which is decimal or `a` to `f`
+unfoldable pub hex_value : ℕ → Option ℕ
 hex_value b = pick (leb b 57) (decimal_value b) (digit_among b 97 102 10)
 
 -- nothing is read yet
 abbrev pub start : Parser
-start = record { line = 0; place = 0; begun = false; value = 0; width = 0; height = 0; bpp = 0; count = 0 }
+start = record { line = Width; place = 0; value = None; width = 0; height = 0; bpp = 0; count = 0 }
 
--- the same on another line
-abbrev pub on_line : ℕ → Parser → Parser
-on_line l p =
-    record { line = l; place = p.place; begun = p.begun; value = p.value; width = p.width; height = p.height; bpp = p.bpp; count = p.count }
-
--- no tile text, whatever comes
-unfoldable pub bad : Parser → Parser
-bad p = on_line 5 p
+-- another line starts
+abbrev pub on_line : Line → Parser → Parser
+on_line l p = record p { line = l; place = 0; value = None }
 
 -- a byte of a key is read
 abbrev pub key_read : Parser → Parser
-key_read p =
-    record { line = p.line; place = p.place + 1; begun = p.begun; value = p.value; width = p.width; height = p.height; bpp = p.bpp; count = p.count }
-
--- the byte b in a key
-unfoldable pub key_step : Parser → ℕ → Parser
-key_step p b = pick (eqb b (key_byte p.line p.place)) (key_read p) (bad p)
+key_read p = record p { place = p.place + 1 }
 
 -- a digit of a number or of a byte is read, and the value so far is v
 abbrev pub with_value : ℕ → Parser → Parser
-with_value v p =
-    record { line = p.line; place = p.place; begun = true; value = v; width = p.width; height = p.height; bpp = p.bpp; count = p.count }
+with_value v p = record p { value = Some v }
 
--- the next line starts
-abbrev pub next_line : Parser → ℕ → ℕ → ℕ → Parser
-next_line p w h b =
-    record { line = p.line + 1; place = 0; begun = false; value = 0; width = w; height = h; bpp = b; count = p.count }
+-- the line of a number ends, and v is the width, the height or the depth
+unfoldable pub number_on : Line → Parser → ℕ → Parser
+number_on Width p v = record (on_line Height p) { width = v }
+number_on Height p v = record (on_line Bpp p) { height = v }
+number_on _ p v = record (on_line Stream p) { bpp = v }
 
--- the line of a number ends: line 0 has the width, 1 the height, 2 the depth
-unfoldable pub end_number : Parser → Parser
-end_number p =
-    pick (eqb p.line 0) (next_line p p.value p.height p.bpp)
-    (pick (eqb p.line 1) (next_line p p.width p.value p.bpp) (next_line p p.width p.height p.value))
+unfoldable pub end_number : Parser → ℕ → Parser
+end_number p v = number_on p.line p v
+
+-- the value of a number's digits and one more, d: no digit comes after a 0 alone, or after a number from 10,000,000 on
+unfoldable pub grown : Option ℕ → ℕ → Option ℕ
+grown None d = Some d
+grown (Some v) d = pick (eqb v 0) None (pick (ltb v 10_000_000) (Some (v * 10 + d)) None)
+
+-- after a number's key: a line feed ends the line of a number, and a digit is read; all else departs
+unfoldable pub number_step : Parser → ℕ → Option Parser
+number_step p b =
+    pick (eqb b 10) (option_map (end_number p) p.value)
+    (option_map (λ v. with_value v p) (option_and_then (grown p.value) (decimal_value b)))
 
 -- the count of a stream's bytes, one more; it stays at 8,193
 unfoldable pub count_more : ℕ → ℕ
@@ -70,45 +71,54 @@ count_more n = pick (ltb n 8193) (n + 1) n
 
 -- a byte of the stream is read
 unfoldable pub byte_read : Parser → Parser
-byte_read p =
-    record { line = p.line; place = p.place; begun = false; value = 0; width = p.width; height = p.height; bpp = p.bpp; count = count_more p.count }
+byte_read p = record p { value = None; count = count_more p.count }
 
--- a number goes on where no digit is read, or digits below 10,000,000 that aren't 0 alone
-unfoldable pub goes_on : Parser → Bool
-goes_on p = pick p.begun (pick (eqb p.value 0) false (ltb p.value 10_000_000)) true
+-- after the stream's key: a digit is read, the first of a byte or the second, and between two bytes a line feed ends the text
+unfoldable pub digit_of : Option ℕ → Parser → ℕ → Option Parser
+digit_of None p b = pick (eqb b 10) (Some (on_line Whole p)) (option_map (λ d. with_value d p) (hex_value b))
+digit_of (Some high) p b = option_map (λ low. byte_read p) (hex_value b)
 
--- a digit of a number
-unfoldable pub number_digit : Parser → ℕ → Parser
-number_digit p d = with_value (pick p.begun (p.value * 10 + d) d) p
+unfoldable pub stream_step : Parser → ℕ → Option Parser
+stream_step p b = digit_of p.value p b
 
--- the byte b after a key: at a line feed the line is ended, and a digit, whose value is d, is read; all else departs
-unfoldable pub value_step : Parser → ℕ → ℕ → Parser → Parser → Parser
-value_step p b d ended read = pick (eqb b 10) ended (pick (ltb d 16) read (bad p))
+-- after a key
+unfoldable pub after_key : Line → Parser → ℕ → Option Parser
+after_key Width p b = number_step p b
+after_key Height p b = number_step p b
+after_key Bpp p b = number_step p b
+after_key Stream p b = stream_step p b
+after_key Whole p b = None
+after_key Bad p b = None
 
--- after a number's key
-unfoldable pub number_step : Parser → ℕ → Parser
-number_step p b =
-    value_step p b (decimal_value b) (pick p.begun (end_number p) (bad p)) (pick (goes_on p) (number_digit p (decimal_value b)) (bad p))
+-- in a key, whose byte is given, or after it
+unfoldable pub in_key : Option ℕ → Parser → ℕ → Option Parser
+in_key (Some key) p b = pick (eqb b key) (Some (key_read p)) None
+in_key None p b = after_key p.line p b
 
--- after the stream's key
-unfoldable pub stream_step : Parser → ℕ → Parser
-stream_step p b =
-    value_step p b (hex_value b) (pick p.begun (bad p) (on_line 4 p)) (pick p.begun (byte_read p) (with_value (hex_value b) p))
+-- the state after the byte b, where a tile's text may have it
+unfoldable pub next : Parser → ℕ → Option Parser
+next p b = in_key (slice_get (key_of p.line) p.place) p b
 
 -- the state after the byte b
 unfoldable pub step : Parser → ℕ → Parser
-step p b =
-    pick (ltb 0 (key_byte p.line p.place)) (key_step p b)
-    (pick (ltb p.line 3) (number_step p b) (pick (eqb p.line 3) (stream_step p b) (bad p)))
+step p b = unwrap_or (next p b) (on_line Bad p)
 
--- the byte b is the second digit of a byte of the stream
-unfoldable pub ends_byte : Parser → ℕ → Bool
-ends_byte p b = pick (eqb p.line 3) (pick p.begun (ltb (hex_value b) 16) false) false
+-- the byte of the stream that ends with the digit b
+unfoldable pub byte_on : Line → Option ℕ → ℕ → Option ℕ
+byte_on Stream (Some high) b = option_map (λ low. high % 16 * 16 + low) (hex_value b)
+byte_on _ _ b = None
 
--- the stream's array after the byte b; from 8,192 bytes on nothing is stored
+unfoldable pub ended_byte : Parser → ℕ → Option ℕ
+ended_byte p b = byte_on p.line p.value b
+
+-- the array with one byte more, where there is one and it is among the first 8,192
+unfoldable pub put : Option ℕ → ℕ → List ℕ → List ℕ
+put None n xs = xs
+put (Some x) n xs = pick (ltb n 8192) (set xs n x) xs
+
+-- the stream's array after the byte b
 unfoldable pub stored : Parser → List ℕ → ℕ → List ℕ
-stored p xs b =
-    pick (ends_byte p b) (pick (ltb p.count 8192) (set xs p.count (p.value % 16 * 16 + hex_value b)) xs) xs
+stored p xs b = put (ended_byte p b) p.count xs
 
 -- the state after the bytes t
 unfoldable pub fed : Parser → List ℕ → Parser

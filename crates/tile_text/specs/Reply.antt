@@ -1,21 +1,25 @@
 -- What `reply` promises for every state of a parser, also one that no text reaches: the printed answer, and what the two lent arrays
 -- hold afterwards. `proofs/Inverse.antt` shows that after a whole text this is the answer to the text.
-use Rattle.std.specs.Prelude.{◌≡◌, List, ◌++◌, ℕ, ◌*◌, ◌≤◌, eqb, length, take, drop}
-use Rattle.base.specs.Picks.{pick}
+use Rattle.std.specs.Prelude.{◌≡◌, List, ◌++◌, ℕ, ◌*◌, ◌≤◌, length, take, drop}
 use Rattle.picture.specs.Pixels.{bytes_of}
 use Rattle.picture.specs.Sizes.{checked, size_of}
 use Rattle.definition.specs.Decode.{Result, result}
 use Rattle.tile_text.specs.Answer.{bad_tile_text, limited, lines_of, Answers}
+use Rattle.tile_text.specs.declared.parser.Line.{Line}
+use Rattle.tile_text.specs.declared.parser.Line.TheVariants.{Whole}
 use Rattle.tile_text.specs.declared.parser.Parser.{Parser}
 
 -- the decoder's answer to the numbers and the stream that a parser has, with the stream's first bytes in an array
 unfoldable pub decoded : Parser → List ℕ → Result
 decoded p stream = result (take p.count stream) p.bpp p.width p.height
 
--- a parser that hasn't read a whole text (line 4) is refused with 9
+-- a parser that hasn't read a whole text is refused with 9
+unfoldable pub reply_on : Line → Result → Result
+reply_on Whole e = e
+reply_on _ e = bad_tile_text
+
 unfoldable pub reply_of : Parser → List ℕ → Result
-reply_of p stream =
-    pick (eqb p.line 4) (limited (size_of (checked p.bpp p.width p.height)) p.count (decoded p stream)) bad_tile_text
+reply_of p stream = reply_on p.line (limited (size_of (checked p.bpp p.width p.height)) p.count (decoded p stream))
 
 -- `written` bytes from the first on are the answer's lines, and the rest of the array is kept; the target holds the painted bytes, and
 -- then what it held

@@ -1,4 +1,4 @@
-// Tile texts: `start` and `feed` read one, in chunks of any size, and `reply` writes the answer to it.
+// Tile texts: a `Parser` reads one, in chunks of any size, and `reply` writes the answer to it.
 //
 // What a tile text is and what is answered is defined in specs/Text.antt and specs/Answer.antt; that the functions here give that
 // answer to every text is `chunks_answered` in proofs/Inverse.antt.
@@ -7,6 +7,7 @@
 pub mod answer;
 pub(crate) mod lines;
 pub mod parser;
+pub(crate) mod refusal;
 
 pub use answer::{reply, reply_to};
-pub use parser::{Parser, feed, start};
+pub use parser::{Line, Parser};

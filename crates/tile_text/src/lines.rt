@@ -1,53 +1,87 @@
-// The answer's seven lines, printed into a lent array.
+// An answer, and its seven lines, printed into a lent array.
 ghost use Rattle.std.specs.Prelude.{◌≡◌, ◌≤◌, length};
-ghost use Rattle.print.specs.Writes.{Writes};
+ghost use Rattle.print.specs.Writes.{Writes, Prints};
 ghost use Rattle.tile_text.specs.Answer.{format_line, painted_line};
-ghost use Rattle.tile_text.specs.Promises.{field_lines};
+ghost use Rattle.tile_text.specs.Promises.{refused, format_in, refusal_in, refusal_lines, answer_lines};
 
-use print::{put_byte, put_bytes, put_number, put_pairs};
+use crate::refusal::Refusal;
+use picture::{Numbers, RlePixelFormat};
+use print::Output;
 
-// The values of the lines; of the painted bytes, how many.
-#[derive(Clone, Copy)]
-pub(crate) struct Fields {
-    pub format: usize,
-    pub refusal: usize,
-    pub first: usize,
-    pub second: usize,
+pub(crate) type Outcome = Result<RlePixelFormat, Refusal>;
+
+// What the lines say; of the painted bytes, how many.
+#[derive(Clone, Copy, Debug)]
+pub(crate) struct Answer {
+    pub outcome: Outcome,
     pub orders: usize,
     pub pixels: usize,
     pub painted: usize,
 }
 
-fn put_format(format: usize, out: &mut [u8], at: usize) -> usize
-    ensures { Writes out.old at (format_line format) out.new result }
-{
-    if format == 0 {
-        return put_bytes(b"format=none\n", out, at);
+// Nothing is decoded.
+impl From<Refusal> for Answer {
+    ghost from_gives = { λ e a. a ≡ refused e };
+
+    fn from(e: Refusal) -> Answer {
+        Answer {
+            outcome: Err(e),
+            orders: 0,
+            pixels: 0,
+            painted: 0,
+        }
     }
-    put_number(b"format=Rgb", format, out, at)
 }
 
-fn put_painted(bytes: &[u8], out: &mut [u8], at: usize) -> usize
-    ensures { Writes out.old at (painted_line bytes.now) out.new result }
+fn put_format(output: &mut Output, outcome: Outcome)
+    ensures { Prints output.old (format_line (format_in outcome)) output.new }
 {
-    let after_key = put_bytes(b"painted=", out, at);
-    let after_pairs = put_pairs(bytes, out, after_key);
-    put_byte(b'\n', out, after_pairs)
+    match outcome {
+        Ok(format) => output.number(b"format=Rgb", format.bits_per_pixel()),
+        Err(_) => output.bytes(b"format=none\n"),
+    }
+}
+
+// All 0 where nothing is refused.
+fn refusal_numbers(outcome: Outcome) -> Numbers
+    ensures refusal { result.refusal ≡ (refusal_in outcome).number }
+    ensures first { result.first ≡ (refusal_in outcome).first }
+    ensures second { result.second ≡ (refusal_in outcome).second }
+{
+    match outcome {
+        Ok(_) => Numbers::default(),
+        Err(e) => Numbers::from(e),
+    }
+}
+
+fn put_refusal(output: &mut Output, outcome: Outcome)
+    ensures { Prints output.old (refusal_lines outcome) output.new }
+{
+    let numbers = refusal_numbers(outcome);
+    output.number(b"refusal=", numbers.refusal);
+    output.number(b"first=", numbers.first);
+    output.number(b"second=", numbers.second);
+}
+
+fn put_painted(output: &mut Output, bytes: &[u8])
+    ensures { Prints output.old (painted_line bytes.now) output.new }
+{
+    output.bytes(b"painted=");
+    output.pairs(bytes);
+    output.byte(b'\n');
 }
 
 // The painted bytes are the target's first.
-pub(crate) fn put_lines(fields: Fields, target: &[u8; 65536], out: &mut [u8; 131328]) -> usize
-    requires { fields.painted ≤ 65536 }
-    ensures writes { Writes out.old 0 (field_lines fields target.now) out.new result }
+pub(crate) fn put_lines(answer: Answer, target: &[u8; 65536], out: &mut [u8; 131328]) -> usize
+    requires { answer.painted ≤ 65536 }
+    ensures writes { Writes out.old 0 (answer_lines answer target.now) out.new result }
     ensures out_len { length out.old ≡ 131328 }
 {
-    let bytes: &[u8] = target;
-    let painted = fields.painted;
-    let after_format = put_format(fields.format, out, 0);
-    let after_refusal = put_number(b"refusal=", fields.refusal, out, after_format);
-    let after_first = put_number(b"first=", fields.first, out, after_refusal);
-    let after_second = put_number(b"second=", fields.second, out, after_first);
-    let after_orders = put_number(b"orders=", fields.orders, out, after_second);
-    let after_pixels = put_number(b"pixels=", fields.pixels, out, after_orders);
-    put_painted(&bytes[..painted], out, after_pixels)
+    let mut output = Output::new(out);
+    put_format(&mut output, answer.outcome);
+    put_refusal(&mut output, answer.outcome);
+    output.number(b"orders=", answer.orders);
+    output.number(b"pixels=", answer.pixels);
+    put_painted(&mut output, &target[..answer.painted]);
+    output.place
 }

@@ -1,277 +1,231 @@
 // A tile text, read one byte at a time in bounded memory.
-ghost use Rattle.std.specs.Prelude.{◌≡◌, true, ◌≤◌, ◌<◌};
+ghost use Rattle.std.specs.Prelude.{◌≡◌, ◌<◌, IfSome};
 ghost use Rattle.tile_text.specs.Parse as parse;
 
-use base::widen;
+// The most bytes of a stream that are decoded.
+pub(crate) const STREAM_LIMIT: usize = 8192;
 
-// The line being read, 0 to 3, or `WHOLE` or `BAD`, and the place in its key.
-// After the key: whether a digit is read, and the value of the digits. Then the numbers of the lines
-// that are read, and the stream's bytes so far, counted up to 8,193.
-#[derive(Clone, Copy)]
+// The line being read; or the text is read whole, or it is no tile text.
+#[derive(Clone, Copy, Debug, Default, PartialEq, Eq)]
+pub enum Line {
+    #[default]
+    Width,
+    Height,
+    Bpp,
+    Stream,
+    Whole,
+    Bad,
+}
+
+impl Line {
+    // What the line begins with.
+    #[tactic(auto, unfolding(crate::specs::Parse::key_of, print::specs::Text::ascii))]
+    fn key(self) -> &'static [u8]
+        ensures { result.now ≡ parse.key_of self }
+    {
+        match self {
+            Line::Width => b"width=",
+            Line::Height => b"height=",
+            Line::Bpp => b"bpp=",
+            Line::Stream => b"stream=",
+            Line::Whole | Line::Bad => b"",
+        }
+    }
+}
+
+// The line, and the place in its key; after the key the value of the digits that are read. Then the numbers of the lines that are
+// read, and the stream's bytes so far, counted up to 8,193.
+#[derive(Clone, Copy, Debug, Default, PartialEq, Eq)]
 pub struct Parser {
-    pub line: usize,
+    pub line: Line,
     pub place: usize,
-    pub begun: bool,
-    pub value: usize,
+    pub value: Option<usize>,
     pub width: usize,
     pub height: usize,
     pub bpp: usize,
     pub count: usize,
 }
 
-// In the place of a line: the text is read whole; it is no tile text.
-pub(crate) const WHOLE: usize = 4;
-
-const BAD: usize = 5;
-
-const LINE_FEED: usize = 10;
-
-// The most bytes of a stream that are decoded.
-pub(crate) const STREAM_LIMIT: usize = 8192;
-
-// In the place of a digit's value: it is no digit.
-const NO_DIGIT: usize = 16;
-
-// The keys, seven places each; 0: the key is read.
-const KEYS: [u8; 28] = *b"width=\0height=bpp=\0\0\0stream=";
-
-// The byte at a place of a line's key; 0: the key is read, or there is no such line.
-fn key_byte(line: usize, place: usize) -> usize
-    ensures { result ≡ parse.key_byte line place }
-{
-    if 4 <= line {
-        return 0;
-    }
-    if 7 <= place {
-        return 0;
-    }
-    widen(KEYS[line * 7 + place])
-}
-
-// The value of b as one of the digits from `first` to `last`, the first of which is worth `least`; `NO_DIGIT` where it is none of
-// them.
-fn digit_among(b: usize, first: usize, last: usize, least: usize) -> usize
-    requires { least ≤ first }
-    ensures { result ≡ parse.digit_among b first last least }
-{
-    if b < first {
-        return NO_DIGIT;
-    }
-    if last < b {
-        return NO_DIGIT;
-    }
-    b - first + least
-}
-
-// The value of a decimal digit, which is `0` to `9`, 48 to 57; `NO_DIGIT` where it is none.
-fn decimal_value(b: usize) -> usize
+// The value of a decimal digit.
+#[tactic(auto, unfolding(crate::specs::Parse::digit_among))]
+fn decimal_value(b: u8) -> Option<u8>
     ensures { result ≡ parse.decimal_value b }
 {
-    digit_among(b, 48, 57, 0)
-}
-
-// The value of a lower-case hexadecimal digit, which is decimal or `a` to `f`, 97 to 102; `NO_DIGIT` where it is none.
-fn hex_value(b: usize) -> usize
-    ensures { result ≡ parse.hex_value b }
-{
-    if b <= 57 {
-        return decimal_value(b);
-    }
-    digit_among(b, 97, 102, 10)
-}
-
-// Nothing is read yet.
-pub fn start() -> Parser
-    ensures { result ≡ parse.start }
-{
-    Parser {
-        line: 0,
-        place: 0,
-        begun: false,
-        value: 0,
-        width: 0,
-        height: 0,
-        bpp: 0,
-        count: 0,
+    match b {
+        b'0'..=b'9' => Some(b - b'0'),
+        _ => None,
     }
 }
 
-// No byte leads away from `BAD`, so one departure anywhere refuses the whole text.
-fn bad(mut p: Parser) -> Parser
-    ensures { result ≡ parse.bad p }
+// The value of a lower-case hexadecimal digit.
+#[tactic(auto, unfolding(crate::specs::Parse::digit_among, crate::specs::Parse::hex_value))]
+fn hex_value(b: u8) -> Option<u8>
+    ensures value { result ≡ parse.hex_value b }
+    ensures small { IfSome result (λ d. d < 16) }
 {
-    p.line = BAD;
-    p
-}
-
-fn next_line(p: Parser, width: usize, height: usize, bpp: usize) -> Parser
-    requires { p.line < 3 }
-    ensures { result ≡ parse.next_line p width height bpp }
-{
-    Parser {
-        line: p.line + 1,
-        place: 0,
-        begun: false,
-        value: 0,
-        width,
-        height,
-        bpp,
-        count: p.count,
+    match b {
+        b'a'..=b'f' => Some(b - b'a' + 10),
+        _ => decimal_value(b),
     }
 }
 
-// The line of a number ends; its value is the width, the height or the depth, by the line.
-fn end_number(p: Parser) -> Parser
-    requires { p.line < 3 }
-    ensures { result ≡ parse.end_number p }
+// The value of a number's digits and one more, the digit d. No digit comes after 0, or after the eighth.
+#[tactic(auto, unfolding(crate::specs::Parse::grown))]
+fn grown(value: Option<usize>, d: u8) -> Option<usize>
+    ensures { result ≡ parse.grown value d }
 {
-    if p.line == 0 {
-        return next_line(p, p.value, p.height, p.bpp);
+    match value {
+        None => Some(usize::from(d)),
+        Some(value) if 0 < value && value < 10_000_000 => Some(value * 10 + usize::from(d)),
+        Some(_) => None,
     }
-    if p.line == 1 {
-        return next_line(p, p.width, p.value, p.bpp);
-    }
-    next_line(p, p.width, p.height, p.value)
 }
 
-// A number goes on where no digit is read, or digits below 10,000,000 that aren't 0 alone.
-fn goes_on(p: Parser) -> bool
-    ensures { result ≡ parse.goes_on p }
-{
-    if p.begun {
-        if p.value == 0 {
-            return false;
-        }
-        return p.value < 10_000_000;
+impl Parser {
+    // Nothing is read yet.
+    pub fn new() -> Parser
+        ensures { result ≡ parse.start }
+    {
+        Parser::default()
     }
-    true
-}
 
-fn number_digit(mut p: Parser, d: usize) -> Parser
-    requires { (d < 16) × (parse.goes_on p ≡ true) }
-    ensures { result ≡ parse.number_digit p d }
-{
-    if p.begun {
-        p.value = p.value * 10 + d;
-    } else {
-        p.value = d;
-    }
-    p.begun = true;
-    p
-}
-
-fn number_step(p: Parser, b: usize) -> Parser
-    requires { p.line < 3 }
-    ensures { result ≡ parse.number_step p b }
-{
-    if b == LINE_FEED {
-        if p.begun {
-            return end_number(p);
-        }
-        return bad(p);
-    }
-    let d = decimal_value(b);
-    if NO_DIGIT <= d {
-        return bad(p);
-    }
-    if goes_on(p) {
-        return number_digit(p, d);
-    }
-    bad(p)
-}
-
-// A byte of the stream is read. Past 8,192 the count only has to say so: it stays at 8,193, and a text of any length can't wrap it.
-fn byte_read(mut p: Parser) -> Parser
-    ensures { result ≡ parse.byte_read p }
-{
-    if p.count < 8193 {
-        p.count = p.count + 1;
-    }
-    p.begun = false;
-    p.value = 0;
-    p
-}
-
-fn stream_step(mut p: Parser, b: usize) -> Parser
-    ensures { result ≡ parse.stream_step p b }
-{
-    if b == LINE_FEED {
-        if p.begun {
-            return bad(p);
-        }
-        p.line = WHOLE;
-        return p;
-    }
-    let d = hex_value(b);
-    if NO_DIGIT <= d {
-        return bad(p);
-    }
-    if p.begun {
-        return byte_read(p);
-    }
-    p.begun = true;
-    p.value = d;
-    p
-}
-
-// The state after the byte b.
-fn step(mut p: Parser, b: usize) -> Parser
-    ensures { result ≡ parse.step p b }
-{
-    let key = key_byte(p.line, p.place);
-    if 0 < key {
-        if b == key {
-            p.place = p.place + 1;
-            return p;
-        }
-        return bad(p);
-    }
-    if p.line < 3 {
-        return number_step(p, b);
-    }
-    if p.line == 3 {
-        return stream_step(p, b);
-    }
-    bad(p)
-}
-
-// Whether b is the second digit of a byte of the stream.
-fn ends_byte(p: Parser, b: usize) -> bool
-    ensures { result ≡ parse.ends_byte p b }
-{
-    if p.line == 3 {
-        if p.begun {
-            return hex_value(b) < NO_DIGIT;
-        }
-        return false;
-    }
-    false
-}
-
-// Stores the byte of the stream that ends with the digit b, where there is one and it has a place.
-fn store(p: Parser, b: usize, stream: &mut [u8; 8192])
-    ensures { stream.new ≡ parse.stored p stream.old b }
-{
-    if ends_byte(p, b) {
-        let d = hex_value(b);
-        let at = p.count;
-        if at < STREAM_LIMIT {
-            stream[at] = (p.value % 16 * 16 + d) as u8;
+    // Another line starts.
+    fn on_line(self, line: Line) -> Parser
+        ensures { result ≡ parse.on_line line self }
+    {
+        Parser {
+            line,
+            place: 0,
+            value: None,
+            ..self
         }
     }
-}
 
-// The state after the bytes of `chunk`, with the stream's bytes among them stored in `stream`.
-pub fn feed(mut p: Parser, chunk: &[u8], stream: &mut [u8; 8192]) -> Parser
-    ensures state { result ≡ parse.fed p chunk.now }
-    ensures stream { stream.new ≡ parse.fed_into p stream.old chunk.now }
-{
-    let mut i = 0;
-    while i < chunk.len() {
-        let b = widen(chunk[i]);
-        store(p, b, stream);
-        p = step(p, b);
-        i += 1;
+    // The line of a number ends; its value is the width, the height or the depth, by the line.
+    #[tactic(auto, unfolding(crate::specs::Parse::end_number, crate::specs::Parse::number_on))]
+    fn end_number(self, value: usize) -> Parser
+        ensures { result ≡ parse.end_number self value }
+    {
+        match self.line {
+            Line::Width => Parser {
+                width: value,
+                ..self.on_line(Line::Height)
+            },
+            Line::Height => Parser {
+                height: value,
+                ..self.on_line(Line::Bpp)
+            },
+            _ => Parser {
+                bpp: value,
+                ..self.on_line(Line::Stream)
+            },
+        }
     }
-    p
+
+    // After a number's key.
+    #[tactic(auto, unfolding(crate::specs::Parse::number_step))]
+    fn number_step(self, b: u8) -> Option<Parser>
+        ensures { result ≡ parse.number_step self b }
+    {
+        if b == b'\n' {
+            return Some(self.end_number(self.value?));
+        }
+        let value = grown(self.value, decimal_value(b)?)?;
+        Some(Parser {
+            value: Some(value),
+            ..self
+        })
+    }
+
+    // A byte of the stream is read. Past 8,192 the count only has to say so: it stays at 8,193, and a text of any length can't wrap it.
+    #[tactic(auto, unfolding(crate::specs::Parse::byte_read, crate::specs::Parse::count_more))]
+    fn byte_read(self) -> Parser
+        ensures { result ≡ parse.byte_read self }
+    {
+        let count = if self.count <= STREAM_LIMIT {
+            self.count + 1
+        } else {
+            self.count
+        };
+        Parser {
+            value: None,
+            count,
+            ..self
+        }
+    }
+
+    // After the stream's key.
+    #[tactic(auto, unfolding(crate::specs::Parse::stream_step, crate::specs::Parse::digit_of))]
+    fn stream_step(self, b: u8) -> Option<Parser>
+        ensures { result ≡ parse.stream_step self b }
+    {
+        match self.value {
+            None if b == b'\n' => Some(self.on_line(Line::Whole)),
+            None => Some(Parser {
+                value: Some(usize::from(hex_value(b)?)),
+                ..self
+            }),
+            Some(_) => hex_value(b).map(|_| self.byte_read()),
+        }
+    }
+
+    // The state after the byte b; none where no tile text has it there.
+    #[tactic(auto, unfolding(crate::specs::Parse::next, crate::specs::Parse::in_key, crate::specs::Parse::after_key))]
+    fn next(self, b: u8) -> Option<Parser>
+        ensures { result ≡ parse.next self b }
+    {
+        if let Some(&key) = self.line.key().get(self.place) {
+            return (b == key).then_some(Parser {
+                place: self.place + 1,
+                ..self
+            });
+        }
+        match self.line {
+            Line::Width | Line::Height | Line::Bpp => self.number_step(b),
+            Line::Stream => self.stream_step(b),
+            Line::Whole | Line::Bad => None,
+        }
+    }
+
+    // No byte leads away from `Bad`, so one departure anywhere refuses the whole text.
+    #[tactic(auto, unfolding(crate::specs::Parse::step))]
+    fn step(self, b: u8) -> Parser
+        ensures { result ≡ parse.step self b }
+    {
+        self.next(b).unwrap_or(self.on_line(Line::Bad))
+    }
+
+    // The byte of the stream that ends with the digit b, where there is one.
+    #[tactic(auto, unfolding(crate::specs::Parse::ended_byte, crate::specs::Parse::byte_on))]
+    fn ended_byte(self, b: u8) -> Option<u8>
+        ensures { result ≡ parse.ended_byte self b }
+    {
+        match (self.line, self.value) {
+            (Line::Stream, Some(high)) => Some((high % 16) as u8 * 16 + hex_value(b)?),
+            _ => None,
+        }
+    }
+
+    // Stores the byte of the stream that ends with the digit b, where there is one and it has a place.
+    #[tactic(auto, unfolding(crate::specs::Parse::stored, crate::specs::Parse::put))]
+    fn store(self, b: u8, stream: &mut [u8; 8192])
+        ensures { stream.new ≡ parse.stored self stream.old b }
+    {
+        if let Some(byte) = self.ended_byte(b)
+            && self.count < STREAM_LIMIT
+        {
+            stream[self.count] = byte;
+        }
+    }
+
+    // Reads the bytes of `chunk`, and stores the stream's bytes among them in `stream`.
+    pub fn feed(&mut self, chunk: &[u8], stream: &mut [u8; 8192])
+        ensures state { self.new ≡ parse.fed self.old chunk.now }
+        ensures stream { stream.new ≡ parse.fed_into self.old stream.old chunk.now }
+    {
+        for &b in chunk {
+            self.store(b, stream);
+            *self = self.step(b);
+        }
+    }
 }

@@ -1,25 +1,12 @@
--- `copy_back` meets its contract: each test that fails leaves the bytes as they are, as the contract does. Assumes nothing.
-use native.Mathlib.Omega.{arith}
-use lib.Dec.{leb}
-use borrow.Author.Tests.{le-leb, lt-leb}
-use Rattle.byte_runs.proofs.Fits.{both_hold, first_fails, second_fails, is-there, not_there, where_holds, where_fails}
+-- `copy_back` meets its contract: where the bytes are their own row nothing changes. Assumes nothing.
+use Rattle.std.proofs.Common.{ℕ, ◌≡◌, ◌+◌, ◌-◌, ap, sym, get_or, le-leb, arith}
+use Rattle.byte_runs.specs.Runs.{above}
+use Rattle.byte_runs.proofs.Runs.{run_idle}
+use Rattle.byte_runs.proofs.Fits.{both_hold, is-there, where_holds}
 use Rattle.copy.proofs.copy_back.Goals as goal
 
-pub returns-then-at-row : goal.returns-then-at-row
-returns-then-at-row c = where_fails _ _ _ _ _ (first_fails _ _ (lt-leb _ _ c.if-at-row.true))
-
-pub returns-then-dst-at : goal.returns-then-dst-at
-returns-then-dst-at c =
-    let a = c.args in
-    where_fails _ _ _ _ _ (second_fails (leb a.row a.at) _ (not_there a.at a.len a.dst.now (omega arith)))
-
-pub returns-then-dst-at-2 : goal.returns-then-dst-at-2
-returns-then-dst-at-2 c =
-    let a = c.args in
-    where_fails _ _ _ _ _ (second_fails (leb a.row a.at) _ (not_there a.at a.len a.dst.now (omega arith)))
-
-pub returns : goal.returns
-returns c =
+pub returns-else-row-gt0 : goal.returns-else-row-gt0
+returns-else-row-gt0 c =
     let a = c.args in
     where_holds _ _ _ _ _ (both_hold _ _ (le-leb a.row a.at (omega arith)) (is-there a.at a.len a.dst.now (omega arith)))
-    c.copied_back.ensures
+    (sym (run_idle (above a.at a.row) a.at a.len a.dst.now (λ k h. let same : a.at + k - a.row ≡ a.at + k = omega arith in ap (λ (j : ℕ). get_or a.dst.now j 0) same)))

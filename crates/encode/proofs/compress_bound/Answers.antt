@@ -9,21 +9,21 @@ use Rattle.encode.proofs.compress_bound.Goals as goal
 pub overflow_mul-width : goal.overflow_mul-width
 overflow_mul-width c =
     let a = c.args in
-    let s = matched c.in-Bytes.is c.picture_size-size.ensures in
+    let s = matched c.in-Ok.is c.picture_size.ensures in
     let g = sized a.bpp a.width a.height _ s in
     omega (arith, few g.width g.height)
 
 pub overhead-requires : goal.overhead-requires
 overhead-requires c =
     let a = c.args in
-    let s = matched c.in-Bytes.is c.picture_size-size.ensures in
+    let s = matched c.in-Ok.is c.picture_size.ensures in
     let g = sized a.bpp a.width a.height _ s in
     few g.width g.height
 
 pub overflow_add-result : goal.overflow_add-result
 overflow_add-result c =
     let a = c.args in
-    let s = matched c.in-Bytes.is c.picture_size-size.ensures in
+    let s = matched c.in-Ok.is c.picture_size.ensures in
     let g = sized a.bpp a.width a.height _ s in
     omega (
       arith,
@@ -34,13 +34,13 @@ overflow_add-result c =
       overhead-few c.bytes_per_pixel.result (a.width * a.height),
     )
 
-pub returns-in-Refused : goal.returns-in-Refused
-returns-in-Refused c =
+pub returns-in-Err : goal.returns-in-Err
+returns-in-Err c =
     let a = c.args in
-    bound-refused a.bpp a.width a.height _ (matched c.in-Refused.is c.picture_size-size.ensures)
+    bound-refused a.bpp a.width a.height _ (matched c.in-Err.is c.picture_size.ensures)
 
-pub returns-in-Bytes : goal.returns-in-Bytes
-returns-in-Bytes c =
+pub returns-in-Ok : goal.returns-in-Ok
+returns-in-Ok c =
     let a = c.args in
-    let s = matched c.in-Bytes.is c.picture_size-size.ensures in
+    let s = matched c.in-Ok.is c.picture_size.ensures in
     bound_good a.bpp a.width a.height _ _ _ s c.bytes_per_pixel.ensures c.overhead.ensures

@@ -5,5 +5,5 @@ use Rattle.nulambiro.proofs.report_numbers.Goals as goal
 pub returns : goal.returns
 unfolding numbers
 returns c =
-    let n = c.numbers_of-n.ensures in
+    let n = c.from-n.ensures in
     simp (n.format, n.refusal, n.first, n.second)

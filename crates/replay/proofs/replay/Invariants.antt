@@ -1,12 +1,10 @@
--- `replay` is safe and ends. The invariant: the place is within the records, and as many bytes as records lie before it. Assumes nothing.
-use Prim.Native.Nat.{◌≤◌, ◌-◌}
-use mathlib.Core.Path.{◌≡◌}
-use lib.ListN.{length}
+-- There are no more streams than bytes passed. Assumes nothing.
+use Rattle.std.proofs.Common.{◌+◌, ◌≤◌, length}
 use Rattle.replay.proofs.replay.Given as goal
 
-abbrev pub invariant-loop-at : goal.invariant-loop-at
-invariant-loop-at l =
-    (l.at ≤ length l.records) × (l.tally.streams ≤ l.at) × (l.tally.differ ≤ l.tally.streams) × (length l.target ≡ length l.initial.target)
+abbrev pub invariant-loop-records : goal.invariant-loop-records
+invariant-loop-records l =
+    (l.tally.streams + length l.records.rest.now ≤ length l.fn.data) × (l.tally.differ ≤ l.tally.streams)
 
-abbrev pub decreases-loop-at : goal.decreases-loop-at
-decreases-loop-at l = length l.records - l.at
+abbrev pub decreases-loop-records : goal.decreases-loop-records
+decreases-loop-records l = length l.records.rest.now

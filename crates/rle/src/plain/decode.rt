@@ -3,45 +3,51 @@ ghost use Rattle.std.specs.Prelude.{length};
 ghost use Rattle.rle.specs.States.{frame_of, Framed};
 ghost use Rattle.rle.specs.Orders.{Decodes};
 
-use crate::head::{Head, read_head};
-use crate::header::{header_kinds, header_lengths};
+use crate::decode::Decoder;
+use crate::head::read_head;
+use crate::header::Headers;
 use crate::plain::order::order;
-use crate::plan::Ending;
-use crate::state::{Frame, Stepped, start};
+use crate::state::{Frame, State, Stepped};
 use crate::walk::{insert_kept, still_first_row};
+
+// The decoder whose pixels are painted one by one.
+pub(crate) struct Plain;
+
+impl Decoder for Plain {
+    fn decode(src: &[u8], dst: &mut [u8], f: Frame) -> Stepped {
+        decode(src, dst, f)
+    }
+}
 
 // All orders of the stream.
 pub(crate) fn decode(src: &[u8], dst: &mut [u8], f: Frame) -> Stepped
     requires { Framed (length dst.old) (frame_of f) }
     ensures { Decodes (frame_of f) src.now dst.old dst.new result }
 {
-    let kinds = header_kinds();
-    let lengths = header_lengths();
-    let mut s = start(f);
+    let headers = Headers::new();
+    let mut s = State::start(f);
     loop {
-        let h = read_head(src, &kinds, &lengths, s.pos);
         let mut t = s;
         t.insert = insert_kept(s.insert, s.first_row, s.pixels, f.width);
         t.first_row = still_first_row(s.first_row, s.pixels, f.width);
-        match h {
-            Head::End => {
+        match read_head(src, &headers, s.pos) {
+            Ok(None) => {
                 return Stepped {
-                    ending: Ending::Complete,
+                    ending: Ok(()),
                     state: s,
                 };
             }
-            Head::Refused(e, next) => {
-                t.pos = next;
+            Err(r) => {
+                t.pos = r.next;
                 return Stepped {
-                    ending: Ending::Refused(e),
+                    ending: Err(r.error),
                     state: t,
                 };
             }
-            Head::Order(o) => {
+            Ok(Some(o)) => {
                 t.pos = o.next;
                 let r = order(src, dst, f, t, o.kind, o.run_length);
-                let e = r.ending;
-                if let Ending::Refused(_) = e {
+                if r.ending.is_err() {
                     return r;
                 }
                 s = r.state;

@@ -9,17 +9,14 @@ ghost use Rattle.rle.specs.Painting.{HasPlace, Paintable, Painted, ink_of};
 
 use crate::paint::{Ink, paint_pixel};
 use crate::pixel::{read_pixel, write_pixel};
-use crate::plan::at_most_8;
 
 // n pixels from number k on, all with one ink.
 pub(crate) fn paint_run(dst: &mut [u8], d: usize, w: usize, k: usize, n: usize, ink: Ink)
     requires { Paintable d w k n dst.old ink }
     ensures { Painted d w (λ _. ink_of ink) k n dst.old dst.new }
 {
-    let mut i = 0;
-    while i < n {
+    for i in 0..n {
         paint_pixel(dst, d, w, k + i, ink);
-        i += 1;
     }
 }
 
@@ -64,15 +61,10 @@ pub(crate) fn paint_mask(
     ensures { Painted d w (decode.mask_ink (ink_of fg) (ink_of bg) mask) k n dst.old dst.new }
 {
     let mut m = mask;
-    let mut i = 0;
-    while i < n {
-        if m % 2 == 1 {
-            paint_pixel(dst, d, w, k + i, fg);
-        } else {
-            paint_pixel(dst, d, w, k + i, bg);
-        }
+    for i in 0..n {
+        let ink = if m % 2 == 1 { fg } else { bg };
+        paint_pixel(dst, d, w, k + i, ink);
         m = m / 2;
-        i += 1;
     }
 }
 
@@ -93,11 +85,8 @@ pub(crate) fn paint_masks(
     requires n_bound { n ≤ (length src.now - from) * 8 }
     ensures { Painted d w (image_ink (ink_of fg) (ink_of bg) (drop from src.now)) k n dst.old dst.new }
 {
-    let mut i = 0;
-    while i < n {
-        let m = at_most_8(n - i);
-        paint_mask(dst, d, w, k + i, m, src[from + i / 8], fg, bg);
-        i += m;
+    for i in (0..n).step_by(8) {
+        paint_mask(dst, d, w, k + i, (n - i).min(8), src[from + i / 8], fg, bg);
     }
 }
 
@@ -117,12 +106,8 @@ pub(crate) fn paint_dithered(dst: &mut [u8], d: usize, k: usize, n: usize, a: [u
     requires of_depth { OfDepth d a × OfDepth d b }
     ensures { (w : ℕ) → Painted d w (decode.dither_ink a b) k n dst.old dst.new }
 {
-    let mut i = 0;
-    let mut to = k * d;
-    while i < n {
-        write_pixel(dst, d, to, dither_pixel(a, b, i));
-        to += d;
-        i += 1;
+    for i in 0..n {
+        write_pixel(dst, d, (k + i) * d, dither_pixel(a, b, i));
     }
 }
 
@@ -132,14 +117,8 @@ pub(crate) fn paint_image(src: &[u8], pos: usize, dst: &mut [u8], d: usize, k: u
     requires d_in_bounds { pos + n * d ≤ length src.now }
     ensures { (w : ℕ) → Painted d w (λ j. decode.Ink.solid (pixel_at d (drop pos src.now) j)) k n dst.old dst.new }
 {
-    let mut i = 0;
-    let mut from = pos;
-    let mut to = k * d;
-    while i < n {
-        let p = read_pixel(src, d, from);
-        write_pixel(dst, d, to, p);
-        from += d;
-        to += d;
-        i += 1;
+    for i in 0..n {
+        let p = read_pixel(src, d, pos + i * d);
+        write_pixel(dst, d, (k + i) * d, p);
     }
 }

@@ -10,7 +10,7 @@ slice_bounds-decompress-end c =
     let a = c.args in
     omega (
       arith,
-      c.stream_length-n.ensures,
+      c.unwrap_or-n.ensures,
       length-inside a.src.now a.bpp a.width a.height _ _ _
           c.compress-answer.ensures,
     )
@@ -19,13 +19,13 @@ pub slice_bounds-decompress-end-2 : goal.slice_bounds-decompress-end-2
 slice_bounds-decompress-end-2 c =
     let a = c.args in
     let inside = length-inside a.src.now a.bpp a.width a.height _ _ _ c.compress-answer.ensures in
-    sym (length-take-le _ _ (rw c.stream_length-n.ensures inside))
+    sym (length-take-le _ _ (rw c.unwrap_or-n.ensures inside))
 
 pub returns : goal.returns
 returns c =
     let a = c.args in
     let e = c.compress-answer.ensures in
-    let d = rw c.stream_length-n.ensures at c.decompress-report.ensures in record {
+    let d = rw c.unwrap_or-n.ensures at c.decompress-report.ensures in record {
       compresses = e;
       decompresses = d;
       round_trip = record {

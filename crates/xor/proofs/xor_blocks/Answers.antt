@@ -1,45 +1,33 @@
--- `xor_blocks` meets its contract: the pattern repeats the color, and serves in its place. Assumes nothing.
-use mathlib.Core.Path.{◌≡◌, refl, ap, sym, ◌∙◌, subst}
-use mathlib.Core.List.{List, [], ◌∷◌}
-use Prim.Native.Nat.{ℕ, ◌%◌}
-use native.Mathlib.Omega.{arith}
-use borrow.Author.Rules.{rules}
-use Rattle.byte_runs.specs.Runs.{run, xored, turn}
-use Rattle.byte_runs.proofs.Patterns.{turn_own, xored_by}
+-- `xor_blocks` meets its contract: the run is written up to i, or to its end; i is a multiple of the period. Assumes nothing.
+use Rattle.std.proofs.Common.{◌≡◌, ◌+◌, refl, arith, min}
+use native.Mathlib.Nat.{zero-mod}
+use Rattle.byte_runs.proofs.Patterns.{pattern_block, mod_sum, whole_pattern}
+use Rattle.byte_runs.proofs.Runs.{run_none}
 use Rattle.xor.proofs.xor_blocks.Goals as goal
 
-pub xor_pattern-requires : goal.xor_pattern-requires
-xor_pattern-requires c =
-    let t = c.pattern2-t in record {
-      len_in_bounds = search rules;
-      le_d = (omega arith, (refl, subst (λ (d : ℕ). c.args.len % d ≡ 0) c.if-d-eq2.true c.requires.le_d.1.1));
-      by_index = turn_own (c.args.a ∷ c.args.b ∷ c.args.c ∷ []) t.result 2 (omega arith) (omega arith) t.ensures;
+pub loop-i-init : goal.loop-i-init
+loop-i-init g c = record { period = zero-mod g.row.D; long = refl; written = run_none _ _ _ _ (omega arith) }
+
+pub loop-i-preserved : goal.loop-i-preserved
+loop-i-preserved g c =
+    let a = c.args in
+    let l = c.loop-i in
+    record {
+      period = mod_sum l.i 48 g.row.D l.invariant.period (omega arith);
+      long = omega arith;
+      written =
+          pattern_block a.pixel c.pattern-t.result g.row.D a.at a.row l.i a.len c.min.result _ _ _ c.min.ensures (omega arith) (omega arith) (omega arith) (omega arith) (omega arith)
+          (omega arith) (omega arith) l.invariant.period
+          (whole_pattern a.pixel c.pattern-t.result g.row.D 48 (omega arith) (omega arith) (omega arith) c.pattern-t.ensures)
+          c.xor_block.ensures l.invariant.written;
     }
 
-pub returns-then-d-eq2 : goal.returns-then-d-eq2
-returns-then-d-eq2 c =
+pub returns-2 : goal.returns-2
+returns-2 g c =
     let a = c.args in
-    let t = c.pattern2-t in
-    let px : List ℕ = a.a ∷ a.b ∷ a.c ∷ [] in
-    c.xor_pattern.ensures
-    ∙ xored_by px t.result 2 (omega arith) (omega arith) t.ensures a.at a.row a.len a.dst.now
-    ∙ ap (λ (d : ℕ). run (xored a.at a.row (turn px d)) a.at a.len a.dst.now) (sym c.if-d-eq2.true)
-
-pub xor_pattern-requires-2 : goal.xor_pattern-requires-2
-xor_pattern-requires-2 c =
-    let t = c.pattern3-t in
-    let three : c.args.d ≡ 3 = omega arith in record {
-      len_in_bounds = search rules;
-      le_d = (omega arith, (refl, subst (λ (d : ℕ). c.args.len % d ≡ 0) three c.requires.le_d.1.1));
-      by_index = turn_own (c.args.a ∷ c.args.b ∷ c.args.c ∷ []) t.result 3 (omega arith) (omega arith) t.ensures;
-    }
-
-pub returns : goal.returns
-returns c =
-    let a = c.args in
-    let t = c.pattern3-t in
-    let px : List ℕ = a.a ∷ a.b ∷ a.c ∷ [] in
-    let three : 3 ≡ a.d = omega arith in
-    c.xor_pattern-2.ensures
-    ∙ xored_by px t.result 3 (omega arith) (omega arith) t.ensures a.at a.row a.len a.dst.now
-    ∙ ap (λ (d : ℕ). run (xored a.at a.row (turn px d)) a.at a.len a.dst.now) three
+    let l = c.loop-i in
+    let end : min (l.i + 48) a.len ≡ a.len = omega arith in
+    rw (← end) (pattern_block a.pixel c.pattern-t.result g.row.D a.at a.row l.i a.len c.min.result _ _ _ c.min.ensures (omega arith) (omega arith) (omega arith) (omega arith) (omega arith)
+    (omega arith) (omega arith) l.invariant.period
+    (whole_pattern a.pixel c.pattern-t.result g.row.D 48 (omega arith) (omega arith) (omega arith) c.pattern-t.ensures)
+    c.xor_block.ensures l.invariant.written)

@@ -1,21 +1,20 @@
--- `xor_few` meets its contract: the depth is two or three. Assumes nothing.
-use mathlib.Core.Path.{◌≡◌}
-use native.Mathlib.Omega.{arith}
+-- `xor_few` meets its contract: i pixels are written. Assumes nothing.
+use Rattle.std.proofs.Common.{refl, sym, arith, ◌+◌, ◌*◌}
+use Rattle.byte_runs.specs.Runs.{turn, each}
+use Rattle.byte_runs.proofs.Runs.{run_none}
+use Rattle.byte_runs.proofs.Pixels.{xored_then, turn_byte}
 use Rattle.xor.proofs.xor_few.Goals as goal
 
-pub xor2-requires : goal.xor2-requires
-xor2-requires c =
-    (rw c.if-d-eq2.true at c.requires.2, c.requires.3)
+pub loop-i-init : goal.loop-i-init
+loop-i-init g c = record { long = refl; written = run_none _ _ _ _ (omega arith) }
 
-pub returns-then-d-eq2 : goal.returns-then-d-eq2
-returns-then-d-eq2 c = rw c.if-d-eq2.true c.xor2.ensures
-
-pub xor3-requires : goal.xor3-requires
-xor3-requires c =
-    let e : c.args.d ≡ 3 = omega arith in
-    (rw e at c.requires.2, c.requires.3)
-
-pub returns : goal.returns
-returns c =
-    let e : c.args.d ≡ 3 = omega arith in
-    rw e c.xor3.ensures
+pub loop-i-preserved : goal.loop-i-preserved
+loop-i-preserved g c =
+    let a = c.args in
+    let l = c.loop-i in
+    record {
+      long = omega arith;
+      written =
+          xored_then (each a.pixel) (turn a.pixel g.row.D) a.at a.row (l.i * g.row.D) g.row.D ((l.i + 1) * g.row.D) c.xor_pixel.new.dst l.dst a.dst.now
+          (λ k q. sym (turn_byte g.row.D l.i k a.pixel q)) (omega arith) c.xor_pixel.ensures l.invariant.written;
+    }

@@ -1,6 +1,7 @@
 -- `from_two_bytes` meets its contract: the bytes give the channels that the number gives. Assumes nothing.
 use mathlib.Core.Path.{refl}
 use mathlib.Core.Logic.{inl}
+use Prim.Native.Nat.{◌<◌}
 use native.Mathlib.Omega.{arith}
 use Rattle.color.specs.Colors.{expand_word, word}
 use Rattle.color.proofs.Channels.{blue, green, green_small, red, uppers}
@@ -13,13 +14,19 @@ pub nonzero_rem-high : goal.nonzero_rem-high
 nonzero_rem-high c = omega (arith, (uppers c.requires).0)
 
 pub overflow_mul-high : goal.overflow_mul-high
-overflow_mul-high c = omega (arith, green_small c.requires c.widen-low.ensures.1 c.widen-high.ensures.1, (uppers c.requires).1)
+overflow_mul-high c = omega (arith, (uppers c.requires).1)
 
 pub overflow_add-low : goal.overflow_add-low
-overflow_add-low c = omega (arith, green_small c.requires c.widen-low.ensures.1 c.widen-high.ensures.1, (uppers c.requires).1)
+overflow_add-low c =
+    let low : c.from-low.result < 256 = omega arith in
+    let high : c.from-high.result < 256 = omega arith in
+    omega (arith, green_small c.requires low high, (uppers c.requires).1)
 
 pub channel_byte-requires-2 : goal.channel_byte-requires-2
-channel_byte-requires-2 c = (c.requires, green_small c.requires c.widen-low.ensures.1 c.widen-high.ensures.1)
+channel_byte-requires-2 c =
+    let low : c.from-low.result < 256 = omega arith in
+    let high : c.from-high.result < 256 = omega arith in
+    (c.requires, green_small c.requires low high)
 
 pub nonzero_div-high : goal.nonzero_div-high
 nonzero_div-high c = omega (arith, (uppers c.requires).0)
@@ -30,8 +37,7 @@ channel_byte-requires-3 c = (inl refl, omega arith)
 pub returns : goal.returns
 unfolding expand_word word
 returns c =
-    let g = c.requires in
-    let x = c.widen-low.ensures in
-    let y = c.widen-high.ensures in
-    rw (c.channel_byte.ensures, c.channel_byte-2.ensures, c.channel_byte-3.ensures, ← x.0, ← y.0)
-    (rw (blue _ _, green g x.1 y.1, red g x.1 y.1))
+    let low : c.from-low.result < 256 = omega arith in
+    let high : c.from-high.result < 256 = omega arith in
+    rw (c.channel_byte.ensures, c.channel_byte-2.ensures, c.channel_byte-3.ensures, ← c.from-low.ensures, ← c.from-high.ensures)
+    (rw (blue _ _, green c.requires low high, red c.requires low high))

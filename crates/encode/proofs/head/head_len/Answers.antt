@@ -1,20 +1,21 @@
--- `head_len` meets its contract, at each of its tests. Assumes nothing.
-use borrow.Author.Tests.{eq-eqb, ne_eqb, le-leb, lt-leb}
+-- `head_len` meets its contract, at each of its arms. Assumes nothing.
+use native.Mathlib.Omega.{arith}
+use borrow.Author.Tests.{ne_eqb, le-leb, lt-leb}
 use Rattle.encoding.specs.Bound.{head_size}
 use Rattle.encode.proofs.head.head_len.Goals as goal
 
-pub returns-then-n-eq0 : goal.returns-then-n-eq0
+pub returns-in-0 : goal.returns-in-0
 unfolding head_size
-returns-then-n-eq0 c = rw (eq-eqb _ _ c.if-n-eq0.true)
+returns-in-0 c = rw c.in-0.is
 
-pub returns-then-n-le-IN_HEADER : goal.returns-then-n-le-IN_HEADER
+pub returns-in-1-to-31 : goal.returns-in-1-to-31
 unfolding head_size
-returns-then-n-le-IN_HEADER c = rw (ne_eqb _ _ c.if-n-eq0.false, le-leb _ _ c.if-n-le-IN_HEADER.true)
+returns-in-1-to-31 c = rw (ne_eqb c.args.n 0 (λ e. omega arith), le-leb c.args.n 31 (omega arith))
 
-pub returns-then-n-le-IN_BYTE : goal.returns-then-n-le-IN_BYTE
+pub returns-in-0-to-287 : goal.returns-in-0-to-287
 unfolding head_size
-returns-then-n-le-IN_BYTE c = rw (ne_eqb _ _ c.if-n-eq0.false, lt-leb _ _ c.if-n-le-IN_HEADER.false, le-leb _ _ c.if-n-le-IN_BYTE.true)
+returns-in-0-to-287 c = rw (ne_eqb c.args.n 0 (λ e. omega arith), lt-leb c.args.n 31 (omega arith), le-leb c.args.n 287 (omega arith))
 
-pub returns : goal.returns
+pub returns-in_default : goal.returns-in_default
 unfolding head_size
-returns c = rw (ne_eqb _ _ c.if-n-eq0.false, lt-leb _ _ c.if-n-le-IN_HEADER.false, lt-leb _ _ c.if-n-le-IN_BYTE.false)
+returns-in_default c = rw (ne_eqb c.args.n 0 (λ e. omega arith), lt-leb c.args.n 31 (omega arith), lt-leb c.args.n 287 (omega arith))

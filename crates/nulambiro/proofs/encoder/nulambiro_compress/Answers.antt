@@ -5,5 +5,5 @@ use Rattle.nulambiro.proofs.encoder.nulambiro_compress.Goals as goal
 
 pub returns : goal.returns
 returns c =
-    let d = c.compress-r.ensures in
-    record { dst_after = d.output; report_after = c.answer_numbers-t.ensures ∙ (λ i. numbers_of (d.refusal i) (d.size i)) }
+    let d = c.compress.ensures in
+    record { dst_after = d.output; report_after = c.answer_numbers.ensures ∙ (λ i. numbers_of (d.refusal i) (d.size i)) }

@@ -1,13 +1,15 @@
--- `depth_of` meets its contract: the code's table is the definition's, and so is the row for none. Assumes nothing.
-use Rattle.picture.specs.Sizes.{depths, no_depth}
-use Rattle.picture.proofs.Depths.{code_row, rows_agree, no_depth_lem}
-use native.Mathlib.Omega.{arith}
+use Rattle.std.proofs.Common.{rules, tests, eqb, ◌∙◌}
+use Rattle.std.proofs.lemmas.Iterator.{YieldsList-from_slice}
+use Rattle.std.proofs.lemmas.Iterator.Search.{find_from_yields_List}
+use Rattle.picture.specs.declared.depth.Depth.{Depth}
+use Rattle.picture.specs.Outcomes.{format_of}
+use Rattle.picture.proofs.Depths.{code_rows, finds}
 use Rattle.picture.proofs.depth.depth_of.Goals as goal
 
-pub returns-then-i-ge4 : goal.returns-then-i-ge4
-unfolding no_depth
-returns-then-i-ge4 c = no_depth_lem _ _ c.depth_index-i.ensures c.if-i-ge4.true
-
 pub returns : goal.returns
-unfolding depths code_row
-returns c = rows_agree _ _ _ c.depth_index-i.ensures (omega (arith, c.depth_index-i.ensures, c.if-i-ge4.false))
+unfolding code_rows
+returns c =
+    let t = λ (d : Depth). eqb (format_of d.format) c.args.bpp in
+    let f = find_from_yields_List t _ _ c.find.result c.find.ensures.ran (YieldsList-from_slice code_rows cc) (λ x b q k. search (rules, tests)) in
+    let g = finds c.args.bpp in
+    rw (c.copied.ensures ∙ f) (record { known = g.known; row = g.row })

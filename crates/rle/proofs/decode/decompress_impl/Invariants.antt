@@ -7,9 +7,9 @@ use Rattle.rle.specs.States.{frame_of}
 use Rattle.rle.specs.Orders.{BetweenOrders}
 use Rattle.rle.proofs.decode.decompress_impl.Given as goal
 
-abbrev pub invariant-loop-r : goal.invariant-loop-r
-invariant-loop-r l =
+abbrev pub invariant-loop-f : goal.invariant-loop-f
+invariant-loop-f l =
     BetweenOrders (frame_of l.f) l.src l.initial.dst l.dst l.s × (l.s.first_row ≡ true → l.limit ≤ l.f.width) × (l.f.width ≤ l.limit)
 
-abbrev pub decreases-loop-r : goal.decreases-loop-r
-decreases-loop-r l = l.f.total + 1 - l.limit
+abbrev pub decreases-loop-f : goal.decreases-loop-f
+decreases-loop-f l = l.f.total + 1 - l.limit

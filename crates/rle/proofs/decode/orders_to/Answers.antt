@@ -3,6 +3,7 @@
 use mathlib.Core.Path.{refl, sym, ◌∙◌}
 use native.Mathlib.Nat.{le_refl}
 use native.Mathlib.Omega.{arith}
+use Rattle.rle.proofs.Endings.{fails, completes}
 use Rattle.rle.proofs.FirstRow.{row_stays}
 use Rattle.rle.proofs.Stream.{invariant_at, order_read, order-refused, between_refused, between_on}
 use Rattle.rle.proofs.decode.orders_to.Goals as goal
@@ -10,20 +11,17 @@ use Rattle.rle.proofs.decode.orders_to.Goals as goal
 pub loop-t-init : goal.loop-t-init
 loop-t-init c = (c.requires.between_orders, le_refl _, c.requires.limit_le_width)
 
-pub read_head-h-requires : goal.read_head-h-requires
-read_head-h-requires c = c.requires.kinds_value
-
-pub returns-in-End : goal.returns-in-End
-returns-in-End c =
+pub returns-in-Ok-None : goal.returns-in-Ok-None
+returns-in-Ok-None c =
     let i = c.loop-t.invariant in
     rw c.completed.ensures
-    (record { grows = i.1; decoded = (i.0, λ _. rw c.in-End.is at c.read_head-h.ensures) })
+    (record { grows = i.1; decoded = (i.0, λ _. rw c.in-Ok-None.field-0-is at c.in-Ok-None.ensures) })
 
-pub returns-in-Refused : goal.returns-in-Refused
-returns-in-Refused c =
+pub returns-in-Err : goal.returns-in-Err
+returns-in-Err c =
     let l = c.loop-t in
-    let at = rw c.in-Refused.is at c.read_head-h.ensures in
-    rw (c.refused.ensures, c.moved.ensures)
+    let at = c.in-Err.ensures in
+    rw (c.refused.ensures, c.moved-in-Err.ensures)
     (record {
       grows = l.invariant.1;
       decoded =
@@ -35,38 +33,38 @@ returns-in-Refused c =
 pub order-r-requires : goal.order-r-requires
 order-r-requires c =
     let i = c.loop-t.invariant in
-    let at = rw c.in-Order.is at c.read_head-h.ensures in
-    rw c.moved-in-Order.ensures
-    (record { ready = record { frame = rw i.0.same c.requires.framed; invariant = invariant_at _ i.0.invariant; some = at.some; few = at.few }; pos_in_bounds = at.place; n_value = at.fixed })
+    let at = rw c.in-Ok-Some.field-0-is at c.in-Ok-Some.ensures in
+    rw c.moved.ensures
+    (record { ready = record { frame = rw i.0.same c.requires.framed; invariant = invariant_at _ i.0.invariant; some = at.some; few = at.few }; pos_in_bounds = at.place; fixed = at.fixed })
 
-pub returns-in-Refused-e : goal.returns-in-Refused-e
-returns-in-Refused-e c =
+pub returns-then-is_err : goal.returns-then-is_err
+returns-then-is_err c =
     let l = c.loop-t in
-    let at = rw c.in-Order.is at c.read_head-h.ensures in
+    let at = rw c.in-Ok-Some.field-0-is at c.in-Ok-Some.ensures in
     let d =
     order_read c.args.f _ _ c.loop-t.t (row_stays c.args.f _ (λ e. omega (arith, c.loop-t.invariant.2 e))) at _ _
-    (rw c.moved-in-Order.ensures at c.order-r.ensures) in
+    (rw c.moved.ensures at c.order-r.ensures) in
     record {
       grows = omega (arith, l.invariant.1, d.0.grows);
-      decoded = between_refused _ _ _ _ _ l.invariant.0 d.2 _ _ d.0 _ _ c.in-Refused-e.is;
+      decoded = between_refused _ _ _ _ _ l.invariant.0 d.2 _ _ d.0 _ _ (fails c.order-r.result.ending c.if-is_err.ensures.value).is;
     }
 
 pub loop-t-smaller : goal.loop-t-smaller
 loop-t-smaller c =
-    let at = rw c.in-Order.is at c.read_head-h.ensures in
+    let at = rw c.in-Ok-Some.field-0-is at c.in-Ok-Some.ensures in
     let d =
     order_read c.args.f _ _ c.loop-t.t (row_stays c.args.f _ (λ e. omega (arith, c.loop-t.invariant.2 e))) at _ _
-    (rw c.moved-in-Order.ensures at c.order-r.ensures) in
+    (rw c.moved.ensures at c.order-r.ensures) in
     omega (arith, d.1, d.2)
 
 pub loop-t-preserved : goal.loop-t-preserved
 loop-t-preserved c =
     let i = c.loop-t.invariant in
-    let at = rw c.in-Order.is at c.read_head-h.ensures in
+    let at = rw c.in-Ok-Some.field-0-is at c.in-Ok-Some.ensures in
     let d =
     order_read c.args.f _ _ c.loop-t.t (row_stays c.args.f _ (λ e. omega (arith, c.loop-t.invariant.2 e))) at _ _
-    (rw c.moved-in-Order.ensures at c.order-r.ensures) in (
-      between_on _ _ _ _ _ i.0 d.2 _ _ d.0 c.in_default.is d.1 c.order-r.auto.dst,
+    (rw c.moved.ensures at c.order-r.ensures) in (
+      between_on _ _ _ _ _ i.0 d.2 _ _ d.0 (completes c.order-r.result.ending c.if-is_err.ensures.value) d.1 c.order-r.auto.dst,
       omega (arith, i.1, d.0.grows),
       λ e. i.2 (sym d.0.mark ∙ e),
     )

@@ -5,19 +5,18 @@ use Rattle.buf.proofs.Reading.{u16_is, u16_few}
 use Rattle.rle.proofs.Lengths.{long_short, long-zero, long-is}
 use Rattle.rle.proofs.head.extract_run_length_mega_mega.Goals as goal
 
-pub returns-then-n-eq0 : goal.returns-then-n-eq0
-returns-then-n-eq0 c =
+pub returns-in-Err : goal.returns-in-Err
+returns-in-Err c =
+    long_short c.args.src.now c.args.pos c.requires _ (u16_few c.args.src.now c.args.pos _ _ c.u16_from.ensures c.in-Err.is)
+
+pub returns-in-Ok-eq0 : goal.returns-in-Ok-eq0
+returns-in-Ok-eq0 c =
     long-zero c.args.src.now c.args.pos c.requires _
-    (u16_is c.args.src.now c.args.pos _ _ c.u16_from-read.ensures c.in-Value.is) c.if-n-eq0.true
+    (u16_is c.args.src.now c.args.pos _ _ c.u16_from.ensures c.in-Ok-eq0.is) c.in-Ok-eq0.field-0-test
 
-pub returns-in-NotEnoughBytes : goal.returns-in-NotEnoughBytes
-returns-in-NotEnoughBytes c =
-    long_short c.args.src.now c.args.pos c.requires _ _
-    (u16_few c.args.src.now c.args.pos _ _ _ c.u16_from-read.ensures c.in-NotEnoughBytes.is)
-
-pub returns-else-n-eq0 : goal.returns-else-n-eq0
-returns-else-n-eq0 c =
+pub returns-in-Ok : goal.returns-in-Ok
+returns-in-Ok c =
     let byte = c.type_inv.src in
     long-is c.args.src.now c.args.pos c.requires _
-    (u16_is c.args.src.now c.args.pos _ _ c.u16_from-read.ensures c.in-Value.is)
-    (omega (arith, byte c.args.pos)) (omega (arith, byte (c.args.pos + 1))) c.if-n-eq0.false
+    (u16_is c.args.src.now c.args.pos _ _ c.u16_from.ensures c.in-Ok.is)
+    (omega (arith, byte c.args.pos)) (omega (arith, byte (c.args.pos + 1))) c.in-Ok.pixels-test.1

@@ -10,27 +10,27 @@ use Rattle.rle.proofs.image.color_image.Goals as goal
 pub finished-requires : goal.finished-requires
 unfolding counts_of
 finished-requires c =
-    fits c.requires.ready ColorImage _ c.plan_color_image-p.result c.plan_color_image-p.ensures (omega arith)
+    fits c.requires.ready ColorImage _ c.color_image-p.result (rw (c.room.ensures.0, c.room.ensures.1) at c.color_image-p.ensures) (omega arith)
 
 pub returns-then-p-eq0 : goal.returns-then-p-eq0
 unfolding counts_of foreground_in insert_in kind_ink leaves
 returns-then-p-eq0 c =
-    executes_finished _ _ _ c.requires.ready c.requires.pos_in_bounds ColorImage c.plan_color_image-p.result c.plan_color_image-p.ensures (record { state = refl; insert = refl }) c.finished.ensures
+    executes_finished _ _ _ c.requires.ready c.requires.pos_in_bounds ColorImage c.color_image-p.result (rw (c.room.ensures.0, c.room.ensures.1) at c.color_image-p.ensures) (record { state = refl; insert = refl }) c.finished.ensures
     (painted-zero c.if-p-eq0.true)
 
 pub paint_image-requires : goal.paint_image-requires
 unfolding counts_of
 paint_image-requires c =
-    let w = within c.requires.ready ColorImage _ c.plan_color_image-p.result c.plan_color_image-p.ensures in
-    record { has_place = has_place c.args.dst.now _ c.requires.ready w.pixels; d_in_bounds = omega (arith, image-operands _ c.plan_color_image-p.result _ c.args.n _ c.plan_color_image-p.ensures) }
+    let w = within c.requires.ready ColorImage _ c.color_image-p.result (rw (c.room.ensures.0, c.room.ensures.1) at c.color_image-p.ensures) in
+    record { has_place = has_place c.args.dst.now _ c.requires.ready w.pixels; d_in_bounds = omega (arith, image-operands _ c.color_image-p.result _ c.args.n _ (rw (c.room.ensures.0, c.room.ensures.1) at c.color_image-p.ensures)) }
 
 pub finished-requires-2 : goal.finished-requires-2
 unfolding counts_of
 finished-requires-2 c =
-    fits c.requires.ready ColorImage _ c.plan_color_image-p.result c.plan_color_image-p.ensures (omega arith)
+    fits c.requires.ready ColorImage _ c.color_image-p.result (rw (c.room.ensures.0, c.room.ensures.1) at c.color_image-p.ensures) (omega arith)
 
 pub returns : goal.returns
 unfolding counts_of foreground_in insert_in kind_ink leaves
 returns c =
-    executes_finished _ _ _ c.requires.ready c.requires.pos_in_bounds ColorImage c.plan_color_image-p.result c.plan_color_image-p.ensures (record { state = refl; insert = refl }) c.finished-2.ensures
+    executes_finished _ _ _ c.requires.ready c.requires.pos_in_bounds ColorImage c.color_image-p.result (rw (c.room.ensures.0, c.room.ensures.1) at c.color_image-p.ensures) (record { state = refl; insert = refl }) c.finished-2.ensures
     (c.paint_image.ensures _)

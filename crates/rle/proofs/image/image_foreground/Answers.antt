@@ -1,12 +1,11 @@
--- `image_foreground` meets its contract: kind 6 has a foreground of its own. Assumes nothing.
-use borrow.Author.Tests.{eq-eqb, ne_eqb}
-use Rattle.definition.specs.Plan.{leaves, foreground_in}
+-- `image_foreground` meets its contract: one case for each value of the test. Assumes nothing.
+use mathlib.Core.Path.{sym, ◌∙◌}
+use Rattle.rle.proofs.Sharing.{foreground_is}
 use Rattle.rle.proofs.image.image_foreground.Goals as goal
 
-pub returns-then-kind-eq6 : goal.returns-then-kind-eq6
-unfolding foreground_in leaves
-returns-then-kind-eq6 c = rw (eq-eqb _ _ c.if-kind-eq6.true) c.new_foreground.ensures
+pub returns-then-sets_foreground : goal.returns-then-sets_foreground
+returns-then-sets_foreground c =
+    rw (foreground_is, sym c.sets_foreground.ensures ∙ c.if-sets_foreground.true) c.new_foreground.ensures
 
 pub returns : goal.returns
-unfolding foreground_in leaves
-returns c = rw (ne_eqb _ _ c.if-kind-eq6.false)
+returns c = rw (foreground_is, sym c.sets_foreground.ensures ∙ c.if-sets_foreground.false)

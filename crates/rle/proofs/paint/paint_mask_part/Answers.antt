@@ -5,14 +5,14 @@ use Rattle.rle.proofs.Painting.{mask_row, painted_by_masks}
 use Rattle.rle.proofs.Parts.{few_masked}
 use Rattle.rle.proofs.paint.paint_mask_part.Goals as goal
 
-pub bytes_back-row-requires : goal.bytes_back-row-requires
-bytes_back-row-requires c =
+pub bytes_back-back-requires : goal.bytes_back-back-requires
+bytes_back-back-requires c =
     λ later. omega (arith, (mask_row c.args.fg c.requires.paintable (sym c.is_solid-first.ensures ∙ later)).1, c.requires.paintable.fits)
 
 pub returns : goal.returns
 returns c =
     let solid = c.is_solid-first in
-    let back = c.bytes_back-row.ensures in
+    let back = c.bytes_back-back.ensures in
     let place = c.requires.paintable in
     painted_by_masks c.requires.n_bound.2 solid.ensures _
     (few_masked c.args.d c.args.w c.args.k c.args.n c.args.dst.now _ c.args.src.now c.args.from solid.result

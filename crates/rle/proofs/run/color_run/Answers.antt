@@ -10,33 +10,33 @@ use Rattle.rle.proofs.run.color_run.Goals as goal
 pub finished-requires : goal.finished-requires
 unfolding counts_of
 finished-requires c =
-    fits c.requires.ready ColorRun _ c.plan_pixel_run-p.result c.plan_pixel_run-p.ensures (omega arith)
+    fits c.requires.ready ColorRun _ c.pixel_run-p.result (rw (c.room.ensures.0, c.room.ensures.1) at c.pixel_run-p.ensures) (omega arith)
 
 pub returns-then-p-eq0 : goal.returns-then-p-eq0
 unfolding counts_of foreground_in insert_in kind_ink leaves
 returns-then-p-eq0 c =
-    executes_finished _ _ _ c.requires.ready c.requires.pos_in_bounds ColorRun c.plan_pixel_run-p.result c.plan_pixel_run-p.ensures (record { state = refl; insert = refl }) c.finished.ensures
+    executes_finished _ _ _ c.requires.ready c.requires.pos_in_bounds ColorRun c.pixel_run-p.result (rw (c.room.ensures.0, c.room.ensures.1) at c.pixel_run-p.ensures) (record { state = refl; insert = refl }) c.finished.ensures
     (painted-zero c.if-p-eq0.true)
 
 pub read_pixel-color-requires : goal.read_pixel-color-requires
 unfolding counts_of
 read_pixel-color-requires c =
-    (c.requires.ready.frame.low, c.requires.ready.frame.high, omega (arith, operands-read _ c.plan_pixel_run-p.result _ _ c.plan_pixel_run-p.ensures (omega arith)))
+    (c.requires.ready.frame.low, c.requires.ready.frame.high, omega (arith, operands-read _ c.pixel_run-p.result _ _ (rw (c.room.ensures.0, c.room.ensures.1) at c.pixel_run-p.ensures) (omega arith)))
 
 pub paint_run-requires : goal.paint_run-requires
 unfolding counts_of
 paint_run-requires c =
-    let w = within c.requires.ready ColorRun _ c.plan_pixel_run-p.result c.plan_pixel_run-p.ensures in
+    let w = within c.requires.ready ColorRun _ c.pixel_run-p.result (rw (c.room.ensures.0, c.room.ensures.1) at c.pixel_run-p.ensures) in
     solid_paintable _ (has_place c.args.dst.now _ c.requires.ready w.pixels) c.requires.ready.frame.wide
     (read_of_depth _ c.requires.ready.frame.low c.requires.ready.frame.high c.read_pixel-color.ensures) c.solid.ensures
 
 pub finished-requires-2 : goal.finished-requires-2
 unfolding counts_of
 finished-requires-2 c =
-    fits c.requires.ready ColorRun _ c.plan_pixel_run-p.result c.plan_pixel_run-p.ensures (omega arith)
+    fits c.requires.ready ColorRun _ c.pixel_run-p.result (rw (c.room.ensures.0, c.room.ensures.1) at c.pixel_run-p.ensures) (omega arith)
 
 pub returns : goal.returns
 unfolding counts_of foreground_in insert_in kind_ink leaves
 returns c =
-    executes_finished _ _ _ c.requires.ready c.requires.pos_in_bounds ColorRun c.plan_pixel_run-p.result c.plan_pixel_run-p.ensures (record { state = refl; insert = refl }) c.finished-2.ensures
+    executes_finished _ _ _ c.requires.ready c.requires.pos_in_bounds ColorRun c.pixel_run-p.result (rw (c.room.ensures.0, c.room.ensures.1) at c.pixel_run-p.ensures) (record { state = refl; insert = refl }) c.finished-2.ensures
     (painted_as (λ _ _. solid-is c.solid.ensures c.read_pixel-color.ensures) c.paint_run.ensures)

@@ -15,40 +15,40 @@ use Rattle.rle.proofs.run.dithered_run.Goals as goal
 pub finished-requires : goal.finished-requires
 unfolding counts_of
 finished-requires c =
-    fits c.requires.ready DitheredRun _ c.plan_dithered_run-p.result c.plan_dithered_run-p.ensures (omega arith)
+    fits c.requires.ready DitheredRun _ c.dithered_run-p.result (rw (c.room.ensures.0, c.room.ensures.1) at c.dithered_run-p.ensures) (omega arith)
 
 pub returns-then-p-eq0 : goal.returns-then-p-eq0
 unfolding counts_of foreground_in insert_in kind_ink leaves
 returns-then-p-eq0 c =
-    executes_finished _ _ _ c.requires.ready c.requires.pos_in_bounds DitheredRun c.plan_dithered_run-p.result c.plan_dithered_run-p.ensures (record { state = refl; insert = refl }) c.finished.ensures
+    executes_finished _ _ _ c.requires.ready c.requires.pos_in_bounds DitheredRun c.dithered_run-p.result (rw (c.room.ensures.0, c.room.ensures.1) at c.dithered_run-p.ensures) (record { state = refl; insert = refl }) c.finished.ensures
     (painted-zero c.if-p-eq0.true)
 
 pub read_pixel-a-requires : goal.read_pixel-a-requires
 unfolding counts_of
 read_pixel-a-requires c =
-    (c.requires.ready.frame.low, c.requires.ready.frame.high, omega (arith, operands-read _ c.plan_dithered_run-p.result _ _ c.plan_dithered_run-p.ensures (omega arith)))
+    (c.requires.ready.frame.low, c.requires.ready.frame.high, omega (arith, operands-read _ c.dithered_run-p.result _ _ (rw (c.room.ensures.0, c.room.ensures.1) at c.dithered_run-p.ensures) (omega arith)))
 
 pub read_pixel-b-requires : goal.read_pixel-b-requires
 unfolding counts_of
 read_pixel-b-requires c =
-    (c.requires.ready.frame.low, c.requires.ready.frame.high, omega (arith, operands-read _ c.plan_dithered_run-p.result _ _ c.plan_dithered_run-p.ensures (omega arith)))
+    (c.requires.ready.frame.low, c.requires.ready.frame.high, omega (arith, operands-read _ c.dithered_run-p.result _ _ (rw (c.room.ensures.0, c.room.ensures.1) at c.dithered_run-p.ensures) (omega arith)))
 
 pub paint_dithered-requires : goal.paint_dithered-requires
 unfolding counts_of
 paint_dithered-requires c =
-    let w = within c.requires.ready DitheredRun _ c.plan_dithered_run-p.result c.plan_dithered_run-p.ensures in
+    let w = within c.requires.ready DitheredRun _ c.dithered_run-p.result (rw (c.room.ensures.0, c.room.ensures.1) at c.dithered_run-p.ensures) in
     let low = c.requires.ready.frame.low in
-    let high = c.requires.ready.frame.high in record { has_place = has_place c.args.dst.now _ c.requires.ready w.pixels; n_value = (pairs_even _ c.plan_dithered_run-p.result _ _ _ _ c.plan_dithered_run-p.ensures, read_of_depth _ low high c.read_pixel-a.ensures, read_of_depth _ low high c.read_pixel-b.ensures) }
+    let high = c.requires.ready.frame.high in record { has_place = has_place c.args.dst.now _ c.requires.ready w.pixels; n_value = (pairs_even _ c.dithered_run-p.result _ _ _ _ (rw (c.room.ensures.0, c.room.ensures.1) at c.dithered_run-p.ensures), read_of_depth _ low high c.read_pixel-a.ensures, read_of_depth _ low high c.read_pixel-b.ensures) }
 
 pub finished-requires-2 : goal.finished-requires-2
 unfolding counts_of
 finished-requires-2 c =
-    fits c.requires.ready DitheredRun _ c.plan_dithered_run-p.result c.plan_dithered_run-p.ensures (omega arith)
+    fits c.requires.ready DitheredRun _ c.dithered_run-p.result (rw (c.room.ensures.0, c.room.ensures.1) at c.dithered_run-p.ensures) (omega arith)
 
 pub returns : goal.returns
 unfolding counts_of foreground_in insert_in kind_ink leaves
 returns c =
     let first = c.read_pixel-a.ensures in
     let second = c.read_pixel-b.ensures ∙ ap (λ (l : List ℕ). first_pixel c.args.f.depth.bytes l) (sym (drop-drop c.args.f.depth.bytes c.args.s.pos c.args.src.now)) in
-    executes_finished _ _ _ c.requires.ready c.requires.pos_in_bounds DitheredRun c.plan_dithered_run-p.result c.plan_dithered_run-p.ensures (record { state = refl; insert = refl }) c.finished-2.ensures
+    executes_finished _ _ _ c.requires.ready c.requires.pos_in_bounds DitheredRun c.dithered_run-p.result (rw (c.room.ensures.0, c.room.ensures.1) at c.dithered_run-p.ensures) (record { state = refl; insert = refl }) c.finished-2.ensures
     (painted_as (λ j _ h. dither_ink (first h) (second h) j) (c.paint_dithered.ensures _))

@@ -11,16 +11,16 @@ use Rattle.rle.proofs.run.fg_run.Goals as goal
 pub paint_fg_run-requires : goal.paint_fg_run-requires
 unfolding counts_of
 paint_fg_run-requires c =
-    let w = within c.requires FgRun 0 c.plan_run-p.result c.plan_run-p.ensures in
+    let w = within c.requires FgRun 0 c.run-p.result (rw (c.room.ensures.0, c.room.ensures.1) at c.run-p.ensures) in
     rw c.fg_ink.ensures (paintable c.args.dst.now _ c.requires w.pixels _ (row-reach _ c.requires.invariant) c.requires.invariant.foreground)
 
 pub finished-requires : goal.finished-requires
 unfolding counts_of
 finished-requires c =
-    fits c.requires FgRun 0 c.plan_run-p.result c.plan_run-p.ensures (omega arith)
+    fits c.requires FgRun 0 c.run-p.result (rw (c.room.ensures.0, c.room.ensures.1) at c.run-p.ensures) (omega arith)
 
 pub returns : goal.returns
 unfolding counts_of foreground_in insert_in kind_ink leaves
 returns c = λ src place.
-    executes_finished src _ _ c.requires place FgRun c.plan_run-p.result c.plan_run-p.ensures (record { state = refl; insert = refl }) c.finished.ensures
+    executes_finished src _ _ c.requires place FgRun c.run-p.result (rw (c.room.ensures.0, c.room.ensures.1) at c.run-p.ensures) (record { state = refl; insert = refl }) c.finished.ensures
     (painted_as (λ _ _. fg-is c.args.s refl c.fg_ink.ensures) c.paint_fg_run.ensures)

@@ -11,18 +11,18 @@ use Rattle.rle.proofs.run.set_fg_run.Goals as goal
 pub paint_fg_run-requires : goal.paint_fg_run-requires
 unfolding counts_of
 paint_fg_run-requires c =
-    let w = within c.requires.ready SetFgRun _ c.plan_pixel_run-p.result c.plan_pixel_run-p.ensures in
+    let w = within c.requires.ready SetFgRun _ c.pixel_run-p.result (rw (c.room.ensures.0, c.room.ensures.1) at c.pixel_run-p.ensures) in
     rw (c.fg_ink.ensures, c.new_foreground-t.ensures)
     (paintable c.args.dst.now _ c.requires.ready w.pixels _ (row-reach _ c.requires.ready.invariant) (new_of_depth c.requires.ready.frame c.requires.ready.invariant.foreground _))
 
 pub finished-requires : goal.finished-requires
 unfolding counts_of
 finished-requires c =
-    fits_with c.new_foreground-t.ensures (fits c.requires.ready SetFgRun _ c.plan_pixel_run-p.result c.plan_pixel_run-p.ensures (omega arith))
+    fits_with c.new_foreground-t.ensures (fits c.requires.ready SetFgRun _ c.pixel_run-p.result (rw (c.room.ensures.0, c.room.ensures.1) at c.pixel_run-p.ensures) (omega arith))
 
 pub returns : goal.returns
 unfolding counts_of foreground_in insert_in kind_ink leaves
 returns c =
     let new = c.new_foreground-t.ensures in
-    executes_finished _ _ _ c.requires.ready c.requires.pos_in_bounds SetFgRun c.plan_pixel_run-p.result c.plan_pixel_run-p.ensures (record { state = new; insert = refl }) c.finished.ensures
+    executes_finished _ _ _ c.requires.ready c.requires.pos_in_bounds SetFgRun c.pixel_run-p.result (rw (c.room.ensures.0, c.room.ensures.1) at c.pixel_run-p.ensures) (record { state = new; insert = refl }) c.finished.ensures
     (painted_as (λ _ _. fg-is c.args.s new c.fg_ink.ensures) c.paint_fg_run.ensures)

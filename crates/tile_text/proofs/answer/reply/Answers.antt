@@ -1,9 +1,7 @@
--- `reply` meets its contract: the answer's values, and then their lines. Assumes nothing.
-use Rattle.tile_text.proofs.Replying.{replied}
+-- The answer, and then its lines. Assumes nothing.
+use Rattle.tile_text.proofs.Replying.{answered_else, replied}
 use Rattle.tile_text.proofs.answer.reply.Goals as goal
 
-pub put_lines-requires : goal.put_lines-requires
-put_lines-requires c = let a = c.answer-fields.ensures in rw a.fields a.fits
-
 pub returns : goal.returns
-returns c = replied c.answer-fields.ensures c.put_lines.ensures.writes c.put_lines.ensures.out_len
+returns c =
+    replied (answered_else _ _ c.decode.ensures c.unwrap_or_else-answer.ensures) c.put_lines.ensures.writes c.put_lines.ensures.out_len

@@ -1,15 +1,24 @@
--- `put_format` meets its contract: its test is the definition's. Assumes nothing.
-use borrow.Author.Tests.{eq-eqb, ne_eqb}
-use Rattle.print.specs.Text.{line}
+-- A format has a name, and a refusal has none. Assumes nothing.
+use Rattle.std.proofs.Common.{◌≡◌, ◌++◌, refl}
+use Rattle.picture.specs.Outcomes.{format_of}
+use Rattle.picture.specs.declared.outcome.RlePixelFormat.{RlePixelFormat}
+use Rattle.picture.specs.declared.outcome.RlePixelFormat.TheVariants.{Rgb24, Rgb16, Rgb15, Rgb8}
+use Rattle.print.specs.Text.{ascii, line}
+use Rattle.print.specs.Digits.{decimal}
 use Rattle.tile_text.specs.Answer.{format_name, format_line}
 use Rattle.tile_text.proofs.lines.put_format.Goals as goal
 
-pub returns-then-format-eq0 : goal.returns-then-format-eq0
-unfolding format_line format_name line
-returns-then-format-eq0 c =
-    simp (eq-eqb _ _ c.if-format-eq0.true) c.put_bytes.ensures
+named : (k : RlePixelFormat) → format_name (format_of k) ≡ ascii "Rgb" ++ decimal (format_of k)
+unfolding format_name
+named Rgb24 = refl
+named Rgb16 = refl
+named Rgb15 = refl
+named Rgb8 = refl
 
-pub returns : goal.returns
-unfolding format_line format_name line
-returns c =
-    simp (ne_eqb _ _ c.if-format-eq0.false) c.put_number.ensures
+pub returns-in-Ok : goal.returns-in-Ok
+unfolding format_line line ascii
+returns-in-Ok c = rw (c.in-Ok.is, named c.in-Ok.format) (rw c.bits_per_pixel.ensures at c.number.ensures)
+
+pub returns-in-Err : goal.returns-in-Err
+unfolding format_line format_name line ascii
+returns-in-Err c = rw c.in-Err.is c.bytes.ensures

@@ -4,27 +4,24 @@ use Prim.Native.Nat.{◌<◌}
 use native.Mathlib.Omega.{arith}
 use lib.ListN.{length}
 use Rattle.rle.specs.States.{first_row_ended}
+use Rattle.rle.proofs.Endings.{fails, completes}
 use Rattle.rle.proofs.FirstRow.{row_again, invariant_marked}
 use Rattle.rle.proofs.Stream.{invariant_at, order_read, order-refused, between_start, between_end, between_marked, decodes_refused, between_on}
 use Rattle.rle.proofs.plain.decode.decode.Goals as goal
 
-pub loop-e-init : goal.loop-e-init
-loop-e-init c =
+pub loop-o-init : goal.loop-o-init
+loop-o-init c =
     rw c.start-s.ensures (between_start c.args.f _ _ c.requires)
 
-pub read_head-h-requires : goal.read_head-h-requires
-read_head-h-requires c =
-    (c.header_kinds-kinds.ensures, c.header_lengths-lengths.ensures)
+pub returns-in-Ok-None : goal.returns-in-Ok-None
+returns-in-Ok-None c =
+    between_end _ _ _ _ _ c.loop-o.invariant refl (rw c.in-Ok-None.field-0-is at c.in-Ok-None.ensures)
 
-pub returns-in-End : goal.returns-in-End
-returns-in-End c =
-    between_end _ _ _ _ _ c.loop-e.invariant refl (rw c.in-End.is at c.read_head-h.ensures)
-
-pub returns-in-Refused : goal.returns-in-Refused
-returns-in-Refused c =
-    let l = c.loop-e in
+pub returns-in-Err : goal.returns-in-Err
+returns-in-Err c =
+    let l = c.loop-o in
     let a = c.args in
-    let at = rw c.in-Refused.is at c.read_head-h.ensures in
+    let at = c.in-Err.ensures in
     let inside : l.s.pos < length a.src.now = omega (arith, at.reads, at.place) in
     let marked = between_marked a.f _ _ _ l.s l.invariant inside in
     rw (c.insert_kept.ensures, c.still_first_row.ensures)
@@ -32,37 +29,37 @@ returns-in-Refused c =
 
 pub order-r-requires : goal.order-r-requires
 order-r-requires c =
-    let l = c.loop-e in
-    let at = rw c.in-Order.is at c.read_head-h.ensures in
+    let l = c.loop-o in
+    let at = rw c.in-Ok-Some.field-0-is at c.in-Ok-Some.ensures in
     rw (c.insert_kept.ensures, c.still_first_row.ensures)
-    (record { ready = record { frame = rw l.invariant.same c.requires; invariant = invariant_at _ (invariant_marked c.args.f l.s l.invariant.invariant); some = at.some; few = at.few }; pos_in_bounds = (at.place, at.fixed.0) })
+    (record { ready = record { frame = rw l.invariant.same c.requires; invariant = invariant_at _ (invariant_marked c.args.f l.s l.invariant.invariant); some = at.some; few = at.few }; pos_in_bounds = at.place })
 
-pub returns-in-Refused-e : goal.returns-in-Refused-e
-returns-in-Refused-e c =
-    let l = c.loop-e in
-    let at = rw c.in-Order.is at c.read_head-h.ensures in
+pub returns-then-is_err : goal.returns-then-is_err
+returns-then-is_err c =
+    let l = c.loop-o in
+    let at = rw c.in-Ok-Some.field-0-is at c.in-Ok-Some.ensures in
     let m = between_marked c.args.f _ _ _ l.s l.invariant (omega (arith, at.reads, at.place)) in
     let d =
     order_read c.args.f _ _ (first_row_ended c.args.f l.s) (row_again c.args.f l.s) at _ _
     (rw (c.insert_kept.ensures, c.still_first_row.ensures) at c.order-r.ensures) in
-    decodes_refused _ _ _ _ _ m d.2 _ _ d.0 _ c.in-Refused-e.is
+    decodes_refused _ _ _ _ _ m d.2 _ _ d.0 _ (fails c.order-r.result.ending c.if-is_err.ensures.value).is
 
-pub loop-e-smaller : goal.loop-e-smaller
-loop-e-smaller c =
-    let l = c.loop-e in
-    let at = rw c.in-Order.is at c.read_head-h.ensures in
+pub loop-o-smaller : goal.loop-o-smaller
+loop-o-smaller c =
+    let l = c.loop-o in
+    let at = rw c.in-Ok-Some.field-0-is at c.in-Ok-Some.ensures in
     let m = between_marked c.args.f _ _ _ l.s l.invariant (omega (arith, at.reads, at.place)) in
     let d =
     order_read c.args.f _ _ (first_row_ended c.args.f l.s) (row_again c.args.f l.s) at _ _
     (rw (c.insert_kept.ensures, c.still_first_row.ensures) at c.order-r.ensures) in
     omega (arith, d.1, d.2)
 
-pub loop-e-preserved : goal.loop-e-preserved
-loop-e-preserved c =
-    let l = c.loop-e in
-    let at = rw c.in-Order.is at c.read_head-h.ensures in
+pub loop-o-preserved : goal.loop-o-preserved
+loop-o-preserved c =
+    let l = c.loop-o in
+    let at = rw c.in-Ok-Some.field-0-is at c.in-Ok-Some.ensures in
     let m = between_marked c.args.f _ _ _ l.s l.invariant (omega (arith, at.reads, at.place)) in
     let d =
     order_read c.args.f _ _ (first_row_ended c.args.f l.s) (row_again c.args.f l.s) at _ _
     (rw (c.insert_kept.ensures, c.still_first_row.ensures) at c.order-r.ensures) in
-    between_on _ _ _ _ _ m d.2 _ _ d.0 c.in_default.is d.1 c.order-r.auto.dst
+    between_on _ _ _ _ _ m d.2 _ _ d.0 (completes c.order-r.result.ending c.if-is_err.ensures.value) d.1 c.order-r.auto.dst

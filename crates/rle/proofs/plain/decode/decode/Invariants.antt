@@ -5,8 +5,8 @@ use Rattle.rle.specs.States.{frame_of}
 use Rattle.rle.specs.Orders.{BetweenOrders}
 use Rattle.rle.proofs.plain.decode.decode.Given as goal
 
-abbrev pub invariant-loop-e : goal.invariant-loop-e
-invariant-loop-e l = BetweenOrders (frame_of l.f) l.src l.initial.dst l.dst l.s
+abbrev pub invariant-loop-o : goal.invariant-loop-o
+invariant-loop-o l = BetweenOrders (frame_of l.f) l.src l.initial.dst l.dst l.s
 
-abbrev pub decreases-loop-e : goal.decreases-loop-e
-decreases-loop-e l = length l.src - l.s.pos
+abbrev pub decreases-loop-o : goal.decreases-loop-o
+decreases-loop-o l = length l.src - l.s.pos

@@ -1,23 +1,22 @@
--- `order_foreground` meets its contract: kinds 5 and 6 have a foreground of their own, and no others. Assumes nothing.
-use mathlib.Core.Path.{sym}
-use native.Mathlib.Omega.{arith}
+-- `order_foreground` meets its contract: the foreground's bytes are there and read, or not. Assumes nothing.
+use mathlib.Core.Path.{sym, ◌∙◌}
 use lib.ListN.{length-drop}
 use borrow.Author.Tests.{le-leb, lt-leb}
 use Rattle.definition.specs.Plan.{new_foreground}
-use Rattle.rle.proofs.Operands.{foreground-number, foreground_own}
+use Rattle.rle.proofs.Sharing.{foreground_is}
+use Rattle.rle.proofs.plain.order.order_foreground.Goals.{else-sets_foreground-via-then-sets_foreground+else-d-src, else-sets_foreground-via-else-sets_foreground}
 use Rattle.rle.proofs.plain.order.order_foreground.Goals as goal
 
-pub returns-then-kind-lt5 : goal.returns-then-kind-lt5
-returns-then-kind-lt5 c = sym (foreground-number _ _ _ _ (λ e. omega arith) (λ e. omega arith))
-
-pub returns-then-kind-gt6 : goal.returns-then-kind-gt6
-returns-then-kind-gt6 c = sym (foreground-number _ _ _ _ (λ e. omega arith) (λ e. omega arith))
-
-pub returns-then-src-pos : goal.returns-then-src-pos
+pub returns-then-d-src : goal.returns-then-d-src
 unfolding new_foreground
-returns-then-src-pos c = rw (foreground_own _ _ _ _ c.if-kind-lt5.false c.if-kind-gt6.false, length-drop, lt-leb _ _ c.if-src-pos.true)
+returns-then-d-src c =
+    rw (foreground_is, sym c.sets_foreground.ensures ∙ c.if-sets_foreground.true, length-drop, le-leb _ _ c.if-d-src.true) c.read_pixel.ensures
 
 pub returns : goal.returns
 unfolding new_foreground
 returns c =
-    rw (foreground_own _ _ _ _ c.if-kind-lt5.false c.if-kind-gt6.false, length-drop, le-leb _ _ c.if-src-pos.false, c.read_pixel.ensures)
+    elim c.else-sets_foreground.branch [
+      | else-sets_foreground-via-then-sets_foreground+else-d-src w ↦
+          rw (foreground_is, sym c.sets_foreground.ensures ∙ w.if-sets_foreground.true, length-drop, lt-leb _ _ w.if-d-src.false)
+      | else-sets_foreground-via-else-sets_foreground w ↦ rw (foreground_is, sym c.sets_foreground.ensures ∙ w.if-sets_foreground.false)
+    ]

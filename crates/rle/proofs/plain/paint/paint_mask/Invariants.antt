@@ -1,14 +1,10 @@
 -- `paint_mask` meets its contract. The invariant: i pixels are painted, and m is the mask without its i lowest bits. Assumes nothing.
-use Prim.Native.Nat.{◌-◌, ◌≤◌, ◌/◌, ◌^◌}
+use Prim.Native.Nat.{◌/◌, ◌^◌}
 use mathlib.Core.Path.{◌≡◌}
-use lib.ListN.{length}
 use Rattle.rle.specs.Painting.{Painted, ink_of}
 use Rattle.definition.specs.Decode.{mask_ink}
 use Rattle.rle.proofs.plain.paint.paint_mask.Given as goal
 
 abbrev pub invariant-loop-i : goal.invariant-loop-i
 invariant-loop-i l =
-    (l.i ≤ l.n) × (length l.dst ≡ length l.initial.dst) × (l.m ≡ l.mask / 2 ^ l.i) × Painted l.d l.w (mask_ink (ink_of l.fg) (ink_of l.bg) l.mask) l.k l.i l.initial.dst l.dst
-
-abbrev pub decreases-loop-i : goal.decreases-loop-i
-decreases-loop-i l = l.n - l.i
+    (l.m ≡ l.mask / 2 ^ l.i) × Painted l.d l.w (mask_ink (ink_of l.fg) (ink_of l.bg) l.mask) l.k l.i l.initial.dst l.dst

@@ -1,16 +1,13 @@
--- `paint_masks` meets its contract. The invariant: i pixels are painted, by whole masks where any are left to paint. Assumes nothing.
-use mathlib.Core.Path.{◌≡◌, refl, ◌∙◌}
-use Prim.Native.Nat.{◌+◌, ◌%◌, ◌≤◌}
+-- `paint_masks` meets its contract. The invariant: i pixels are painted, by whole masks. Assumes nothing.
+use mathlib.Core.Path.{◌≡◌, refl}
+use Prim.Native.Nat.{◌+◌, ◌-◌}
 use native.Mathlib.Omega.{arith}
 use Rattle.rle.specs.Painting.{ink_of}
 use Rattle.rle.proofs.Painting.{painted-none, painted_join, painted_as, painted_at, at_most_bytes, part, mask_in_image}
 use Rattle.rle.proofs.plain.paint.paint_masks.Goals as goal
 
 pub loop-i-init : goal.loop-i-init
-loop-i-init c = (omega arith, refl, λ _. refl, painted-none)
-
-pub overflow_sub-n : goal.overflow_sub-n
-overflow_sub-n c = omega arith
+loop-i-init c = (omega arith, refl, painted-none)
 
 pub overflow_add-k : goal.overflow_add-k
 overflow_add-k c =
@@ -25,31 +22,30 @@ bounds-src-from c = omega arith
 pub paint_mask-requires : goal.paint_mask-requires
 paint_mask-requires c =
     let l = c.loop-i in
-    record { paintable = part _ _ c.requires.paintable (omega arith) l.invariant.1; paintable_2 = part _ _ c.requires.paintable_2 (omega arith) l.invariant.1 }
-
-pub overflow_add-i : goal.overflow_add-i
-overflow_add-i c = omega arith
-
-pub loop-i-smaller : goal.loop-i-smaller
-loop-i-smaller c = omega arith
+    record { paintable = part _ _ c.requires.paintable (omega (arith, c.min.ensures)) l.auto.dst; paintable_2 = part _ _ c.requires.paintable_2 (omega (arith, c.min.ensures)) l.auto.dst }
 
 pub loop-i-preserved : goal.loop-i-preserved
 loop-i-preserved c =
     let l = c.loop-i in
     let a = c.args in
-    let whole : l.i % 8 ≡ 0 = l.invariant.2 (omega arith) in
-    let few : c.at_most_8-m.result ≤ 8 = omega arith in (
+    let eight : c.min.result ≡ 8 = omega (arith, c.min.ensures) in (
       omega arith,
-      c.paint_mask.auto.dst ∙ l.invariant.1,
-      λ h. omega arith,
-      painted_join _ _ _ _ _ _ _ _ _ l.invariant.3
-          (painted_as (λ j b. mask_in_image (ink_of a.fg) (ink_of a.bg) a.src.now a.from l.i j whole (omega arith)) c.paint_mask.ensures),
+      omega arith,
+      painted_join _ _ _ _ _ _ _ _ _ l.invariant.2
+          (painted_as (λ j b. mask_in_image (ink_of a.fg) (ink_of a.bg) a.src.now a.from l.i j l.invariant.1 (omega arith)) (rw eight at c.paint_mask.ensures)),
     )
-
-pub shape_of-dst : goal.shape_of-dst
-shape_of-dst c = c.loop-i.invariant.1
 
 pub returns : goal.returns
 returns c =
-    let e : c.loop-i.i ≡ c.args.n = omega arith in
-    painted_at e c.loop-i.invariant.3
+    let e : c.loop-i.i ≡ c.args.n = omega (arith, c.loop-i.invariant.0) in
+    painted_at e c.loop-i.invariant.2
+
+pub returns-2 : goal.returns-2
+returns-2 c =
+    let l = c.loop-i in
+    let a = c.args in
+    let few : c.min.result ≡ a.n - l.i = omega (arith, c.min.ensures) in
+    let e : l.i + (a.n - l.i) ≡ a.n = omega (arith, l.invariant.0) in
+    painted_at e
+    (painted_join _ _ _ _ _ _ _ _ _ l.invariant.2
+    (painted_as (λ j b. mask_in_image (ink_of a.fg) (ink_of a.bg) a.src.now a.from l.i j l.invariant.1 (omega arith)) (rw few at c.paint_mask.ensures)))

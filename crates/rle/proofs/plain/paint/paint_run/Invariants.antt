@@ -1,12 +1,6 @@
 -- `paint_run` meets its contract. The invariant: i pixels are painted. Assumes nothing.
-use Prim.Native.Nat.{◌-◌, ◌≤◌}
-use mathlib.Core.Path.{◌≡◌}
-use lib.ListN.{length}
 use Rattle.rle.specs.Painting.{Painted, ink_of}
 use Rattle.rle.proofs.plain.paint.paint_run.Given as goal
 
 abbrev pub invariant-loop-i : goal.invariant-loop-i
-invariant-loop-i l = (l.i ≤ l.n) × (length l.dst ≡ length l.initial.dst) × Painted l.d l.w (λ _. ink_of l.ink) l.k l.i l.initial.dst l.dst
-
-abbrev pub decreases-loop-i : goal.decreases-loop-i
-decreases-loop-i l = l.n - l.i
+invariant-loop-i l = Painted l.d l.w (λ _. ink_of l.ink) l.k l.i l.initial.dst l.dst

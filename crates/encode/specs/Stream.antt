@@ -1,0 +1,20 @@
+-- The orders of a picture's stream, one after the other.
+use Rattle.std.specs.Prelude.{◌≡◌, Bool, ℕ, ◌+◌, ◌<◌}
+use Rattle.encode.specs.declared.order.Order.{Order}
+use Rattle.encode.specs.declared.orders.Orders.{Orders}
+use Rattle.encode.specs.declared.pixels.Pixels.{Pixels}
+use Rattle.encode.specs.Pixels.{pixels_in}
+use Rattle.encode.specs.Orders.{is_background, OrderAt}
+
+-- the orders of p from pixel k on, directly after a background run or not
+pub record OrdersFrom (p : Pixels) (k : ℕ) (after : Bool) (s : Orders) : Type 0 where
+  pub pixels : s.pixels.now ≡ p
+  pub next : s.k ≡ k
+  pub background : s.after ≡ after
+
+-- s gives the order o at pixel k, and then is t
+pub record OrderTaken (s : Orders) (k : ℕ) (o : Order) (t : Orders) : Type 0 where
+  pub inside : k < s.pixels.now.total
+  pub place : k ≡ s.k
+  pub is : OrderAt s.pixels.now.width (pixels_in s.pixels.now) k s.after o.kind o.pixels
+  pub rest : OrdersFrom s.pixels.now (k + o.pixels) (is_background o.kind) t

@@ -1,0 +1,23 @@
+// Why there is no stream.
+use picture::RleError;
+use thiserror::Error;
+
+#[derive(Clone, Copy, Debug, PartialEq, Eq, Error)]
+pub enum CompressError {
+    // As in decoding: the depth, the sizes, or a pixel buffer that is too short.
+    #[error("{0}")]
+    Refused(RleError),
+    #[error("the output is too short for the stream")]
+    OutputTooShort,
+}
+
+impl From<RleError> for CompressError {
+    ghost use Rattle.std.specs.Prelude.{◌≡◌};
+    ghost use Rattle.encode.specs.declared.error.CompressError.TheVariants.{Refused};
+
+    ghost from_gives = { λ e r. r ≡ Refused e };
+
+    fn from(e: RleError) -> CompressError {
+        CompressError::Refused(e)
+    }
+}

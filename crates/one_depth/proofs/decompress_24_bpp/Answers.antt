@@ -1,5 +1,0 @@
--- `decompress_24_bpp` meets its contract: it is `decompress` at 24 bits per pixel. Assumes nothing.
-use Rattle.one_depth.proofs.decompress_24_bpp.Goals as goal
-
-pub returns : goal.returns
-returns c = c.decompress.ensures

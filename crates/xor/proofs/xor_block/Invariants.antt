@@ -1,0 +1,10 @@
+-- `xor_block` meets its contract: i bytes are in the array, mixed. Assumes nothing.
+use Rattle.std.proofs.Common.{◌≡◌, ℕ, ◌+◌, ◌<◌, length, get_or}
+use Rattle.std.specs.Int.Bits.{bit_xor}
+use Rattle.xor.proofs.xor_block.Given as goal
+
+abbrev pub invariant-loop-i : goal.invariant-loop-i
+invariant-loop-i l = record {
+  long : length l.t ≡ 48;
+  filled : (k : ℕ) → k < l.i → get_or l.t k 0 ≡ bit_xor (get_or l.dst (l.from + k) 0) (get_or l.w k 0);
+}
