@@ -34,6 +34,9 @@ record_at o pixels first insert =
 abbrev pub Stop : Type 0
 Stop = Result (Option OrderRecord) RleError
 
+abbrev pub stopped_at : Stop → Walk → ℕ → Walked
+stopped_at stop walk orders = record { stop = stop; walk = walk; orders = orders }
+
 abbrev pub found_by : Stop → Walk → Option Found
 found_by (Ok None) w = None
 found_by (Err e) w = None

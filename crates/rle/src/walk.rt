@@ -1,10 +1,10 @@
-// A walk over a stream's orders by their plans, without a target: the same plans as the decoder's, in a dispatch of its own, since one
-// that two loops call would be slower for both. The plain decoder plans by it too, but no library for C has both of these loops.
+// A walk over a stream's orders by their plans, without a target: the same plans as the decoder's, by `Room::order`, which the decoder
+// does not call, since one that two loops call would be slower for both. The plain decoder does, but no library for C has both loops.
 ghost use Rattle.std.specs.Prelude.{◌≡◌, false, ◌≤◌, ltb};
 ghost use Rattle.base.specs.Picks.{pick};
 ghost use Rattle.rle.specs.States.{frame_of};
 ghost use Rattle.rle.specs.Walks.{start_walk};
-ghost use Rattle.rle.specs.Walking.{WalksOrders, found_by, ending_by};
+ghost use Rattle.rle.specs.Walking.{WalksOrders, stopped_at, found_by, ending_by};
 
 use crate::head::read_head;
 use crate::header::Headers;
@@ -32,6 +32,21 @@ impl Walk {
             pixels: 0,
             insert: false,
             first_row: true,
+        }
+    }
+
+    // The answer of a walk that stops here.
+    pub(crate) fn stopped(
+        self,
+        stop: Result<Option<OrderRecord>, RleError>,
+        orders: usize,
+    ) -> Walked
+        ensures { result ≡ stopped_at stop self orders }
+    {
+        Walked {
+            stop,
+            walk: self,
+            orders,
         }
     }
 }
@@ -106,31 +121,17 @@ pub(crate) fn walk_orders(src: &[u8], f: Frame, from: Walk, n: usize) -> Walked
     loop {
         let head = match read_head(src, &headers, walk.pos) {
             Ok(head) => head,
-            Err(r) => {
-                return Walked {
-                    stop: Err(r.error),
-                    walk,
-                    orders,
-                };
-            }
+            Err(r) => return walk.stopped(Err(r.error), orders),
         };
         let Some(o) = head else {
-            return Walked {
-                stop: Ok(None),
-                walk,
-                orders,
-            };
+            return walk.stopped(Ok(None), orders);
         };
         let p = f
             .room(walk.pixels)
             .order(o.kind, o.run_length, src.len() - o.next);
         if let Err(e) = p.ending {
             walk.pixels += p.pixels;
-            return Walked {
-                stop: Err(e),
-                walk,
-                orders,
-            };
+            return walk.stopped(Err(e), orders);
         }
         let insert = insert_kept(walk.insert, walk.first_row, walk.pixels, f.width);
         walk.first_row = still_first_row(walk.first_row, walk.pixels, f.width);
@@ -139,11 +140,8 @@ pub(crate) fn walk_orders(src: &[u8], f: Frame, from: Walk, n: usize) -> Walked
         walk.insert = o.kind.leaves_insert();
         orders += 1;
         if n < orders {
-            return Walked {
-                stop: Ok(Some(record_at(o, p.pixels, walk.first_row, insert))),
-                walk,
-                orders,
-            };
+            let r = record_at(o, p.pixels, walk.first_row, insert);
+            return walk.stopped(Ok(Some(r)), orders);
         }
     }
 }

@@ -1,4 +1,4 @@
-// One order of the plain decoder: its plan, its foreground, its pixels, and its end, each by the kind's number.
+// One order of the plain decoder: its plan, its foreground, its pixels, and its end, each by its kind.
 ghost use Rattle.std.specs.Prelude.{◌≡◌, ◌-◌, ◌≤◌, length, drop};
 ghost use Rattle.definition.specs.Decode as decode;
 ghost use Rattle.definition.specs.Plan as plan;

@@ -9,12 +9,13 @@ pub loop-head-init : goal.loop-head-init
 loop-head-init c = walked_start (frame_of c.args.f) _ _ _ c.requires.2
 
 pub returns-in_default : goal.returns-in_default
-returns-in_default c = walked_end c.loop-head.invariant (rw c.in_default.is at c.in-Ok.ensures)
+returns-in_default c = rw c.stopped-in_default.ensures (walked_end c.loop-head.invariant (rw c.in_default.is at c.in-Ok.ensures))
 
 pub returns-in-Err : goal.returns-in-Err
 returns-in-Err c =
-    walked_refused c.loop-head.invariant
-    (head-refused c.args.f _ c.loop-head.walk c.loop-head.invariant.within c.in-Err.ensures)
+    rw c.stopped.ensures
+    (walked_refused c.loop-head.invariant
+    (head-refused c.args.f _ c.loop-head.walk c.loop-head.invariant.within c.in-Err.ensures))
 
 pub room-requires : goal.room-requires
 room-requires c = (c.requires.0, c.requires.1, c.loop-head.invariant.within)
@@ -36,8 +37,9 @@ overflow_add-walk c =
 pub returns-in-Err-ending : goal.returns-in-Err-ending
 returns-in-Err-ending c =
     let at = rw c.in-Some.is at c.in-Ok.ensures in
-    walked_refused c.loop-head.invariant
-    (order-refused c.args.f _ c.loop-head.walk c.loop-head.invariant.within at c.order-p.result (rw (c.room.ensures.0, c.room.ensures.1) at c.order-p.ensures) _ c.in-Err-ending.is)
+    rw c.stopped-in-Err-ending.ensures
+    (walked_refused c.loop-head.invariant
+    (order-refused c.args.f _ c.loop-head.walk c.loop-head.invariant.within at c.order-p.result (rw (c.room.ensures.0, c.room.ensures.1) at c.order-p.ensures) _ c.in-Err-ending.is))
 
 pub overflow_add-walk-in-loop-head : goal.overflow_add-walk-in-loop-head
 overflow_add-walk-in-loop-head c =
@@ -58,9 +60,9 @@ overflow_add-orders c = omega (arith, c.loop-head.invariant.counted, c.loop-head
 pub returns-then-n-orders : goal.returns-then-n-orders
 returns-then-n-orders c =
     let at = rw c.in-Some.is at c.in-Ok.ensures in
-    rw (c.still_first_row.ensures, c.leaves_insert.ensures)
+    rw (c.stopped-then-n-orders.ensures, c.still_first_row.ensures, c.leaves_insert.ensures)
     (walked_order c.loop-head.invariant (order-completed c.args.f _ c.loop-head.walk c.loop-head.invariant.within at c.order-p.result (rw (c.room.ensures.0, c.room.ensures.1) at c.order-p.ensures) c.in_default-ending.is) c.if-n-orders.true _
-    (λ k. rw (c.record_at.ensures, c.insert_kept-insert.ensures, c.still_first_row.ensures) (record_walked c.args.f _ c.loop-head.walk c.loop-head.invariant.within at c.order-p.result (rw (c.room.ensures.0, c.room.ensures.1) at c.order-p.ensures) k)))
+    (λ k. rw (c.record_at-r.ensures, c.insert_kept-insert.ensures, c.still_first_row.ensures) (record_walked c.args.f _ c.loop-head.walk c.loop-head.invariant.within at c.order-p.result (rw (c.room.ensures.0, c.room.ensures.1) at c.order-p.ensures) k)))
 
 pub loop-head-smaller : goal.loop-head-smaller
 loop-head-smaller c =
