@@ -11,7 +11,7 @@ use mathlib.Core.Bool.{true}
 use borrow.Author.Tests.{le-leb}
 use borrow.Rule.Slice.PartMut.{put_mid}
 use Rattle.byte_runs.specs.Runs.{run, run_where, both, there, above, xored, mixed, bytes, is_depth, turn, each, repeated}
-use Rattle.byte_runs.proofs.Runs.{length_run, run_settled, run_idle}
+use Rattle.byte_runs.proofs.Runs.{length_run, run-append, run_settled, run_idle}
 use Rattle.byte_runs.proofs.Arrays.{placed}
 use Rattle.byte_runs.proofs.Blocks.{bytes_block, mixed_block}
 use Rattle.byte_runs.proofs.Fits.{both_hold, back-there}
@@ -73,6 +73,24 @@ run-back w at p (suc m) l hp per fits =
     ∙ ap (λ (i : ℕ). set (r (p + m)) i (w (p + m))) (add_assoc at p m)
     ∙ ap r (sym (add-suc p m))
 
+-- the same behind any run of them that is no shorter: the bytes repeat after `back` of them
+run_back_more : (w : ℕ → ℕ) (at m back n : ℕ) (l : List ℕ) → 0 < back → back ≤ m → ((k : ℕ) → w (back + k) ≡ w k) → at + (m + n) ≤ length l
+    → run (above (at + m) back) (at + m) n (run (bytes w) at m l) ≡ run (bytes w) at (m + n) l
+run_back_more w at m back n l hp hm per fits =
+    let u : ℕ → ℕ = λ (k : ℕ). w (m - back + k) in
+    let first : List ℕ = run (bytes w) at (m - back) l in
+    let long : length (run (bytes w) at (m - back) l) ≡ length l = length_run (bytes w) at (m - back) l in
+    let em : m - back + back ≡ m = omega arith in
+    let ea : at + (m - back) + back ≡ at + m = omega arith in
+    let en : m - back + (back + n) ≡ m + n = omega arith in
+    ap (λ (x : List ℕ). run (above (at + m) back) (at + m) n x)
+    (sym (run-append (bytes w) at (m - back) back l ∙ ap (λ (j : ℕ). run (bytes w) at j l) em))
+    ∙ ap (λ (j : ℕ). run (above j back) j n (run (bytes u) (at + (m - back)) back first)) (sym ea)
+    ∙ run-back u (at + (m - back)) back n first hp
+    (λ k. let e : m - back + (back + k) ≡ back + (m - back + k) = omega arith in ap w e ∙ per (m - back + k)) (omega arith)
+    ∙ run-append (bytes w) at (m - back) (back + n) l
+    ∙ ap (λ (j : ℕ). run (bytes w) at j l) en
+
 -- the first p bytes from `at` on, over and over: they are a run of themselves, and repeat after any multiple of p
 module _ (at p : ℕ) (l : List ℕ) where
   pub own-run : l ≡ run (bytes (repeated l at p)) at p l
@@ -82,12 +100,13 @@ module _ (at p : ℕ) (l : List ℕ) where
   period m k z =
       ap (λ (j : ℕ). get_or l (at + j) 0) (sym (mod-add-mod m p k) ∙ ap (λ (x : ℕ). (x + k) % p) z ∙ ap (λ (x : ℕ). x % p) (zero-add k))
 
-  -- n more bytes, copied from as many bytes back as are there
-  pub repeated_more : (m n row to : ℕ) (new l₁ : List ℕ) → 0 < m → m % p ≡ 0 → at + (m + n) ≤ length l → row ≡ m → to ≡ at + m
-      → new ≡ run (above to row) to n l₁ → l₁ ≡ run (bytes (repeated l at p)) at m l → new ≡ run (bytes (repeated l at p)) at (m + n) l
-  repeated_more m n row to new l₁ pos z fits er et e r =
-      e ∙ ap (λ (j : ℕ). run (above to j) to n l₁) er ∙ ap (λ (j : ℕ). run (above j m) j n l₁) et ∙ ap (λ (x : List ℕ). run (above (at + m) m) (at + m) n x) r
-      ∙ run-back (repeated l at p) at m n l pos (λ k. period m k z) fits
+  -- n more bytes, copied from a multiple of p bytes back
+  pub repeated_more : (m n len back to : ℕ) (new l₁ : List ℕ) → m + n ≡ len → 0 < back → back ≤ m → back % p ≡ 0 → at + len ≤ length l → to ≡ at + m
+      → new ≡ run (above to back) to n l₁ → l₁ ≡ run (bytes (repeated l at p)) at m l → new ≡ run (bytes (repeated l at p)) at len l
+  repeated_more m n len back to new l₁ en some le z fits et e r =
+      e ∙ ap (λ (j : ℕ). run (above j back) j n l₁) et ∙ ap (λ (x : List ℕ). run (above (at + m) back) (at + m) n x) r
+      ∙ run_back_more (repeated l at p) at m back n l some le (λ k. period back k z) (omega arith)
+      ∙ ap (λ (j : ℕ). run (bytes (repeated l at p)) at j l) en
 
   -- the bytes behind the first p are copied from p bytes back
   pub repeated_back : (n to : ℕ) (new : List ℕ) → 0 < p → at + (p + n) ≤ length l → to ≡ at + p

@@ -9,4 +9,4 @@ returns c =
     let a = c.args in
     where_holds _ _ _ _ _
     (both_hold _ _ (is-there a.from a.len a.src.now (omega arith)) (is-there a.at a.len a.dst.now (omega arith)))
-    (placed_from a.src.now a.from a.at _ _ a.len a.dst.now _ c.copy_from_slice.ensures.after (omega arith) (omega arith) (omega arith) (omega arith))
+    (placed_from a.src.now a.from a.at _ _ a.len a.dst.now _ c.copy_bytes.ensures (omega arith) (omega arith) (omega arith) (omega arith))

@@ -8,5 +8,5 @@ pub returns : goal.returns
 returns c =
     let a = c.args in
     let s = c.split_at_mut-above.ensures in
-    placed_split (a.at - a.row) a.at _ a.len a.dst.now _ _ _ s.front s.back c.copy_from_slice.ensures.after (omega arith) (omega arith) (omega arith)
+    placed_split (a.at - a.row) a.at _ a.len a.dst.now _ _ _ s.front s.back c.copy_bytes.ensures (omega arith) (omega arith) (omega arith)
     ∙ loaded (λ (b k : ℕ). b) a.at (a.at - a.row) a.row a.len a.dst.now (omega arith) (omega arith)

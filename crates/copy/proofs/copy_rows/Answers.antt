@@ -1,5 +1,5 @@
 -- `copy_rows` meets its contract: what is there from a row back on are the row's bytes, over and over. Assumes nothing.
-use Rattle.std.proofs.Common.{ℕ, refl, ◌+◌, ◌-◌, ◌%◌, ◌∙◌, ◌≡◌, ap, add-zero, arith}
+use Rattle.std.proofs.Common.{ℕ, ◌+◌, ◌-◌, ◌*◌, ◌%◌, ◌≤◌, ◌∙◌, ◌≡◌, ap, add-zero, arith}
 use Rattle.std.proofs.Math.Nat.{mod_self}
 use Rattle.byte_runs.specs.Runs.{run, bytes, repeated}
 use Rattle.byte_runs.proofs.Patterns.{own-run, repeated_more, repeated_back, mod_sum}
@@ -9,23 +9,42 @@ pub loop-done-init : goal.loop-done-init
 loop-done-init c =
     let a = c.args in record {
       within = omega arith;
-      whole = λ h. rw add-zero (mod_self a.row);
+      whole = mod_self a.row;
+      there = λ h. omega arith;
+      some = omega arith;
       same = rw add-zero (own-run (a.at - a.row) a.row a.dst.now);
+    }
+
+pub loop-done-preserved-then-back-lt-SHORT : goal.loop-done-preserved-then-back-lt-SHORT
+loop-done-preserved-then-back-lt-SHORT c =
+    let a = c.args in
+    let l = c.loop-done in
+    let there : l.back ≤ a.row + l.done = l.invariant.there (omega arith) in
+    record {
+      within = omega (arith, c.min-n.ensures);
+      whole =
+          let twice : l.back * 2 ≡ l.back + l.back = omega arith in
+          ap (λ (j : ℕ). j % a.row) twice ∙ mod_sum l.back l.back a.row l.invariant.whole l.invariant.whole;
+      there = λ h. omega (arith, c.min-n.ensures);
+      some = omega (arith, l.invariant.some);
+      same =
+          repeated_more (a.at - a.row) a.row a.dst.now (a.row + l.done) c.min-n.result _ l.back _ _ _ (omega arith) l.invariant.some there l.invariant.whole
+          (omega (arith, c.min-n.ensures)) (omega arith) c.copy_row.ensures l.invariant.same;
     }
 
 pub loop-done-preserved : goal.loop-done-preserved
 loop-done-preserved c =
     let a = c.args in
     let l = c.loop-done in
-    let whole : (a.row + l.done) % a.row ≡ 0 = l.invariant.whole (omega arith) in record {
+    let there : l.back ≤ a.row + l.done = l.invariant.there (omega arith) in
+    record {
       within = omega (arith, c.min-n.ensures);
-      whole = λ h.
-          let twice : a.row + (l.done + c.min-n.result) ≡ a.row + l.done + (a.row + l.done) = omega (arith, c.min-n.ensures) in
-          ap (λ (j : ℕ). j % a.row) twice ∙ mod_sum (a.row + l.done) (a.row + l.done) a.row whole whole;
+      whole = l.invariant.whole;
+      there = λ h. omega arith;
+      some = l.invariant.some;
       same =
-          let sum : a.row + l.done + c.min-n.result ≡ a.row + (l.done + c.min-n.result) = omega arith in
-          repeated_more (a.at - a.row) a.row a.dst.now (a.row + l.done) c.min-n.result _ _ _ _ (omega arith) whole (omega (arith, c.min-n.ensures)) refl (omega arith) c.copy_row.ensures l.invariant.same
-          ∙ ap (λ (j : ℕ). run (bytes (repeated a.dst.now (a.at - a.row) a.row)) (a.at - a.row) j a.dst.now) sum;
+          repeated_more (a.at - a.row) a.row a.dst.now (a.row + l.done) c.min-n.result _ l.back _ _ _ (omega arith) l.invariant.some there l.invariant.whole
+          (omega (arith, c.min-n.ensures)) (omega arith) c.copy_row.ensures l.invariant.same;
     }
 
 pub returns : goal.returns

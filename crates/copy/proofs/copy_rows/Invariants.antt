@@ -6,7 +6,9 @@ use Rattle.copy.proofs.copy_rows.Given as goal
 abbrev pub invariant-loop-done : goal.invariant-loop-done
 invariant-loop-done l = record {
   within : l.done ≤ l.len;
-  whole : l.done < l.len → (l.row + l.done) % l.row ≡ 0;
+  whole : l.back % l.row ≡ 0;
+  there : l.done < l.len → l.back ≤ l.row + l.done;
+  some : 0 < l.back;
   same : l.dst ≡ run (bytes (repeated l.initial.dst (l.at - l.row) l.row)) (l.at - l.row) (l.row + l.done) l.initial.dst;
 }
 
