@@ -1,7 +1,7 @@
 -- Laws of tests and places: when bytes and pixels are there, and a run that is written where a test holds. Assumes nothing.
-use mathlib.Core.Path.{◌≡◌, refl, ◌∙◌}
+use mathlib.Core.Path.{◌≡◌, refl, sym, ap, ◌∙◌}
 use mathlib.Core.List.{List}
-use mathlib.Core.Bool.{Bool, true}
+use mathlib.Core.Bool.{Bool, true, false}
 use Prim.Native.Nat.{ℕ, ◌+◌, ◌*◌, ◌≤◌}
 use lib.Dec.{leb}
 use lib.ListN.{length}
@@ -12,6 +12,10 @@ use Rattle.byte_runs.specs.Runs.{run, run_where, both, there, pixels_there, abov
 
 pub both_hold : (s t : Bool) → s ≡ true → t ≡ true → both s t ≡ true
 both_hold s t e f = rw e f
+
+both_left : (s t : Bool) → t ≡ true → both s t ≡ s
+both_left true t e = e
+both_left false t e = refl
 
 -- ---- places
 
@@ -28,6 +32,10 @@ module _ (d at n : ℕ) (l : List ℕ) where
 module _ (test : Bool) (v : List ℕ → ℕ → ℕ) (at n : ℕ) (l : List ℕ) where
   pub where_holds : {new : List ℕ} → test ≡ true → new ≡ run v at n l → new ≡ run_where test v at n l
   where_holds e r = r ∙ rw e refl
+
+-- a run where two tests hold, of which one does
+pub where_left : (s t : Bool) (v : List ℕ → ℕ → ℕ) (at n : ℕ) (l : List ℕ) → t ≡ true → run_where s v at n l ≡ run_where (both s t) v at n l
+where_left s t v at n l e = ap (λ (b : Bool). run_where b v at n l) (sym (both_left s t e))
 
 -- a copy from a row back whose bytes are there
 pub back-there : (at n row : ℕ) (new l : List ℕ) → row ≤ at → at + n ≤ length l

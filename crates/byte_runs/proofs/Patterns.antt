@@ -21,11 +21,19 @@ use Rattle.byte_runs.proofs.Pixels.{turn_byte}
 turn_at : (px : List ℕ) (d m k : ℕ) → m % d ≡ 0 → turn px d k ≡ turn px d (m + k)
 turn_at px d m k z = ap (λ (x : ℕ). get_or px x 0) (ap (λ (x : ℕ). x % d) (sym (zero-add k)) ∙ ap (λ (x : ℕ). (x + k) % d) (sym z) ∙ mod-add-mod m d k)
 
--- n bytes that hold whole pixels are all of the pattern that `pattern` makes
-pub whole_pattern : (px t : List ℕ) (d n : ℕ) → 1 ≤ d → d ≤ 3 → n % d ≡ 0 → (is_depth d ≡ true → (k : ℕ) → k < n / d * d → get_or t k 0 ≡ turn px d k)
-    → (k : ℕ) → k < n → get_or t k 0 ≡ turn px d k
-whole_pattern px t d n low high z all k h =
-    let q : n / d * d ≡ n = sym (add-zero (n / d * d)) ∙ ap (λ (y : ℕ). n / d * d + y) (sym z) ∙ div-add-mod' n d in
+-- 48 bytes hold whole pixels of each depth
+pub whole_pixels : (d : ℕ) → 1 ≤ d → d ≤ 3 → 48 % d ≡ 0
+whole_pixels zero low high = omega arith
+whole_pixels (suc zero) low high = refl
+whole_pixels (suc (suc zero)) low high = refl
+whole_pixels (suc (suc (suc zero))) low high = refl
+whole_pixels (suc (suc (suc (suc d)))) low high = omega arith
+
+-- so they are all of the pattern that `pattern` makes
+pub whole_pattern : (px t : List ℕ) (d : ℕ) → 1 ≤ d → d ≤ 3 → (is_depth d ≡ true → (k : ℕ) → k < 48 / d * d → get_or t k 0 ≡ turn px d k)
+    → (k : ℕ) → k < 48 → get_or t k 0 ≡ turn px d k
+whole_pattern px t d low high all k h =
+    let q : 48 / d * d ≡ 48 = sym (add-zero (48 / d * d)) ∙ ap (λ (y : ℕ). 48 / d * d + y) (sym (whole_pixels d low high)) ∙ div-add-mod' 48 d in
     all (both_hold _ _ (le-leb 1 d low) (le-leb d 3 high)) k (rw q h)
 
 pub mod_sum : (a b d : ℕ) → a % d ≡ 0 → b % d ≡ 0 → (a + b) % d ≡ 0
@@ -51,12 +59,12 @@ place_mod i len d h e el ei =
 -- a block w of the pattern px; the last block ends where the run ends
 module _ (px w : List ℕ) (d at row i len p : ℕ) (new l l₀ : List ℕ) where
   pub pattern_block : p ≡ min i (len - 48) → i < len → 48 ≤ len → 48 ≤ row → row ≤ at → at + len ≤ length l₀
-      → 48 % d ≡ 0 → len % d ≡ 0 → i % d ≡ 0 → ((k : ℕ) → k < 48 → get_or w k 0 ≡ turn px d k)
+      → 1 ≤ d → d ≤ 3 → len % d ≡ 0 → i % d ≡ 0 → ((k : ℕ) → k < 48 → get_or w k 0 ≡ turn px d k)
       → new ≡ run (mixed l (at + p - row) (each w)) (at + p) 48 l → l ≡ run (xored at row (turn px d)) at (min i len) l₀
       → new ≡ run (xored at row (turn px d)) at (min (i + 48) len) l₀
-  pattern_block ep hi hl hr ha fits e48 el ei per e r =
+  pattern_block ep hi hl hr ha fits low high el ei per e r =
       mixed_block (each w) (turn px d) at row p (min i len) 48 (min (i + 48) len) (at + p) (at + p - row) new l l₀
-      (λ k q. per k q ∙ turn_at px d p k (ap (λ (x : ℕ). x % d) ep ∙ place_mod i len d hl e48 el ei))
+      (λ k q. per k q ∙ turn_at px d p k (ap (λ (x : ℕ). x % d) ep ∙ place_mod i len d hl (whole_pixels d low high) el ei))
       refl (omega arith) (omega arith) (omega arith) hr ha (omega arith) (omega arith) (omega arith) e r
 
 -- BACK: a run of bytes that repeat after p of them: the rest is copied from p places back

@@ -2,7 +2,7 @@
 use mathlib.Core.Path.{◌≡◌, refl, sym, ap, ◌∙◌}
 use mathlib.Core.List.{List}
 use Prim.Native.Nat.{ℕ, zero, suc, ◌+◌, ◌-◌, ◌≤◌, ◌<◌}
-use native.Mathlib.Nat.{le_antisymm, add-zero, add-suc, add_assoc}
+use native.Mathlib.Nat.{add-zero, add-suc, add_assoc}
 use native.Mathlib.Omega.{arith}
 use lib.Seq.{get_or-set_same, get_or-set_other, set-get_or}
 use native.Mathlib.Numerals.{add-one}
@@ -18,10 +18,6 @@ run_more v at j l l₀ e = ap (λ (m : List ℕ). set m (at + j) (v m j)) e ∙ 
 pub store_more : (v : List ℕ → ℕ → ℕ) (at j p b : ℕ) (l l₀ : List ℕ) → p ≡ at + j → b ≡ v l j → l ≡ run v at j l₀ → set l p b ≡ run v at (j + 1) l₀
 store_more v at j p b l l₀ ep eb e =
     ap (λ (q : ℕ). set l q b) ep ∙ ap (λ (x : ℕ). set l (at + j) x) eb ∙ run_more v at j l l₀ e
-
--- the loop's end
-pub run_end : (v : List ℕ → ℕ → ℕ) (at j n : ℕ) (l l₀ : List ℕ) → l ≡ run v at j l₀ → j ≤ n → n ≤ j → l ≡ run v at n l₀
-run_end v at j n l l₀ e h k = e ∙ ap (λ (m : ℕ). run v at m l₀) (le_antisymm h k)
 
 -- no byte yet
 pub run_none : (v : List ℕ → ℕ → ℕ) (at n : ℕ) (l : List ℕ) → n ≡ 0 → l ≡ run v at n l

@@ -1,5 +1,5 @@
 -- Bytes written one after the other from a place on.
-use Rattle.std.specs.Prelude.{Bool, true, false, Option, None, Some, List, ◌++◌, ℕ, zero, suc, ◌+◌, ◌-◌, ◌*◌, ◌/◌, ◌%◌, ◌^◌, leb, length, get_or, set, take}
+use Rattle.std.specs.Prelude.{Bool, true, false, Option, None, Some, List, ◌++◌, ℕ, zero, suc, ◌+◌, ◌-◌, ◌*◌, ◌/◌, ◌%◌, ◌^◌, ◌≤◌, ◌≡◌, leb, length, get_or, set, take}
 use Rattle.std.specs.Int.Bits.{bit_xor}
 use Rattle.base.specs.Picks.{pick}
 
@@ -22,6 +22,14 @@ both s t = pick s t false
 abbrev pub is_depth : ℕ → Bool
 is_depth d = both (leb 1 d) (leb d 3)
 
+-- the same as bounds
+abbrev pub Depth : ℕ → Type 0
+Depth d = (1 ≤ d) × (d ≤ 3)
+
+-- and eight pixels have n bytes
+abbrev pub Eight : ℕ → ℕ → Type 0
+Eight d n = (1 ≤ d) × (d ≤ 3) × (n ≡ 8 * d)
+
 -- n pixels of d bytes from `at` on are there
 abbrev pub pixels_there : ℕ → ℕ → ℕ → List ℕ → Bool
 pixels_there d at n l = both (is_depth d) (there at (n * d) l)
@@ -30,6 +38,11 @@ pixels_there d at n l = both (is_depth d) (there at (n * d) l)
 abbrev pub row_there : Option ℕ → ℕ → Bool
 row_there None at = true
 row_there (Some row) at = leb row at
+
+-- they are so many that n bytes can be read whole before as many are written
+abbrev pub row_holds : Option ℕ → ℕ → Bool
+row_holds None n = true
+row_holds (Some row) n = leb n row
 
 -- where the test holds the run, else nothing
 abbrev pub run_where : Bool → (List ℕ → ℕ → ℕ) → ℕ → ℕ → List ℕ → List ℕ
@@ -77,6 +90,11 @@ abbrev pub row_bytes : Option ℕ → ℕ → (ℕ → ℕ) → List ℕ → ℕ
 row_bytes None at w = bytes w
 row_bytes (Some row) at w = xored at row w
 
+-- the byte so many places back, in the first row none: zero
+abbrev pub byte_back : Option ℕ → ℕ → List ℕ → ℕ
+byte_back None at l = 0
+byte_back (Some row) at l = get_or l (at - row) 0
+
 -- a where bit k of m is set, else 0
 abbrev pub inked : ℕ → ℕ → ℕ → ℕ
 inked m a k = m / 2 ^ k % 2 * a
@@ -88,6 +106,10 @@ inked_by m d p k = inked m (get_or p k 0) (k / d)
 -- the same for the masks of s from `pos` on, eight pixels each: px is the color's bytes
 abbrev pub masked_by : List ℕ → ℕ → ℕ → List ℕ → ℕ → ℕ
 masked_by s pos d px k = inked (get_or s (pos + k / (8 * d)) 0) (turn px d k) (k / d % 8)
+
+-- the same for the one mask m
+abbrev pub mask_by : ℕ → ℕ → List ℕ → ℕ → ℕ
+mask_by m d px k = inked m (turn px d k) (k / d % 8)
 
 -- the p bytes of s from `at` on, over and over
 abbrev pub repeated : List ℕ → ℕ → ℕ → ℕ → ℕ

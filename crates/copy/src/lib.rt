@@ -8,7 +8,8 @@ ghost use Rattle.byte_runs.specs.Runs.{run, run_where, both, there, above, taken
 const SHORT: usize = 2048;
 
 // The bytes of src in place of as many, by blocks of 64, the last one overlapping. Of `chunks_exact` the compiler makes one call of the C
-// library again.
+// library again. It stays a call: most copies are short.
+#[inline(never)]
 fn copy_blocks(dst: &mut [u8], src: &[u8])
     requires { (length dst.old ≡ length src.now) × (64 ≤ length src.now) }
     ensures { dst.new ≡ src.now }
@@ -21,6 +22,7 @@ fn copy_blocks(dst: &mut [u8], src: &[u8])
 }
 
 // The bytes of src in place of as many.
+#[inline(always)]
 fn copy_bytes(dst: &mut [u8], src: &[u8])
     requires { length dst.old ≡ length src.now }
     ensures { dst.new ≡ src.now }
@@ -47,9 +49,12 @@ fn copy_row(dst: &mut [u8], at: usize, len: usize, row: usize)
 // registers.
 #[inline(never)]
 fn copy_rows(dst: &mut [u8], at: usize, len: usize, row: usize)
-    requires { (at + len ≤ length dst.old) × (row ≤ at) × (0 < row) }
+    requires { (at + len ≤ length dst.old) × (row ≤ at) }
     ensures { dst.new ≡ run (above at row) at len dst.old }
 {
+    if row == 0 {
+        return;
+    }
     let mut done = 0;
     let mut back = row;
     while done < len {
@@ -69,9 +74,9 @@ pub fn copy_back(dst: &mut [u8], at: usize, len: usize, row: usize)
     if at < row || dst.len() < at || dst.len() - at < len {
         return;
     }
-    if len <= row {
+    if len <= row && len <= SHORT {
         copy_row(dst, at, len, row);
-    } else if 0 < row {
+    } else {
         copy_rows(dst, at, len, row);
     }
 }

@@ -7,7 +7,8 @@ ghost use Rattle.byte_runs.specs.Runs.{run, run_where, both, there, above, pixel
 use byte_runs::pixels_fit;
 use copy::copy_back;
 
-// n units from dst[at] on, stored one by one.
+// n units from dst[at] on, stored one by one: by an index, since a proof knows nothing of a slice's elements once `chunks_exact_mut` has lent
+// its parts.
 fn store_units<const N: usize>(dst: &mut [u8], at: usize, n: usize, unit: [u8; N])
     requires { (0 < N) × (at + n * N ≤ length dst.old) }
     ensures { dst.new ≡ run (bytes (turn unit.entry N)) at (n * N) dst.old }

@@ -2,65 +2,53 @@
 // they are, later exclusive-or the bytes so many places back.
 #![tactic(auto)]
 
-ghost use Rattle.std.specs.Prelude.{◌≡◌, ◌+◌, ◌*◌, ◌%◌, ◌≤◌, ◌<◌, leb, length};
-ghost use Rattle.byte_runs.specs.Runs.{run_where, both, there, pixels_there, row_there, masked_by, row_bytes};
+ghost use Rattle.std.specs.Prelude.{◌≡◌, ◌+◌, ◌*◌, ◌≤◌, leb, length};
+ghost use Rattle.byte_runs.specs.Runs.{Depth, Eight, run_where, both, there, pixels_there, row_there, mask_by, masked_by, row_bytes};
 
 use byte_runs::pixels_fit;
 
 pub(crate) mod part;
 pub(crate) mod whole;
 
-use part::{narrow, put_part, xor_part};
-use whole::{first, later};
+use part::{narrow, part};
+use whole::whole;
 
-// m whole masks for pixels of D bytes.
+// Whole masks for pixels of D bytes.
 fn masks_of<const D: usize, const N: usize>(
-    src: &[u8],
-    pos: usize,
+    masks: &[u8],
     dst: &mut [u8],
     at: usize,
     back: Option<usize>,
-    m: usize,
     pixel: [u8; 3],
 )
-    requires { (1 ≤ D) × (D ≤ 3) × (48 % D ≡ 0) × (N ≡ 8 * D) × (at + m * 8 * D ≤ length dst.old) × (pos + m ≤ length src.now) }
-    ensures { dst.new ≡ run_where (row_there back at) (row_bytes back at (masked_by src.now pos D pixel)) at (m * 8 * D) dst.old }
+    requires { Eight D N × (at + length masks.now * 8 * D ≤ length dst.old) }
+    ensures { dst.new ≡ run_where (row_there back at) (row_bytes back at (masked_by masks.now 0 D pixel)) at (length masks.now * 8 * D) dst.old }
 {
-    let Some(row) = back else {
-        first::<D, N>(src, pos, dst, at, m, pixel);
-        return;
-    };
-    if at < row {
-        return;
+    match back {
+        None => whole::<D, N>(masks, dst, at, None, pixel),
+        Some(row) if at < row => {}
+        Some(row) if row < N => narrow::<D>(masks, dst, at, Some(row), pixel),
+        Some(row) => whole::<D, N>(masks, dst, at, Some(row), pixel),
     }
-    if row < N {
-        narrow::<D>(src, pos, dst, at, row, m, pixel);
-        return;
-    }
-    later::<D, N>(src, pos, dst, at, row, m, pixel);
 }
 
 // The first n pixels of one mask for pixels of D bytes.
 fn part_of<const D: usize>(
-    src: &[u8],
-    pos: usize,
+    mask: u8,
     dst: &mut [u8],
     at: usize,
     back: Option<usize>,
     n: usize,
     pixel: [u8; 3],
 )
-    requires { (1 ≤ D) × (D ≤ 3) × (at + n * D ≤ length dst.old) × (pos < length src.now) × (n ≤ 8) }
-    ensures { dst.new ≡ run_where (row_there back at) (row_bytes back at (masked_by src.now pos D pixel)) at (n * D) dst.old }
+    requires { Depth D × (at + n * D ≤ length dst.old) × (n ≤ 8) }
+    ensures { dst.new ≡ run_where (row_there back at) (row_bytes back at (mask_by mask D pixel)) at (n * D) dst.old }
 {
-    let Some(row) = back else {
-        put_part::<D>(src, pos, dst, at, n, pixel);
-        return;
-    };
-    if at < row {
-        return;
+    match back {
+        None => part::<D>(mask, dst, at, None, n, pixel),
+        Some(row) if at < row => {}
+        Some(row) => part::<D>(mask, dst, at, Some(row), n, pixel),
     }
-    xor_part::<D>(src, pos, dst, at, row, n, pixel);
 }
 
 // m whole masks from src[pos] on, for 8 * m pixels of d bytes from dst[at] on, in the first row where `back` is none. Nothing where d is no
@@ -83,10 +71,11 @@ pub fn masks(
     if src.len() < pos || src.len() - pos < m {
         return;
     }
+    let masks = &src[pos..pos + m];
     match d {
-        1 => masks_of::<1, 8>(src, pos, dst, at, back, m, pixel),
-        2 => masks_of::<2, 16>(src, pos, dst, at, back, m, pixel),
-        _ => masks_of::<3, 24>(src, pos, dst, at, back, m, pixel),
+        1 => masks_of::<1, 8>(masks, dst, at, back, pixel),
+        2 => masks_of::<2, 16>(masks, dst, at, back, pixel),
+        _ => masks_of::<3, 24>(masks, dst, at, back, pixel),
     }
 }
 
@@ -114,9 +103,10 @@ pub fn mask_part(
     if src.len() <= pos {
         return;
     }
+    let mask = src[pos];
     match d {
-        1 => part_of::<1>(src, pos, dst, at, back, n, pixel),
-        2 => part_of::<2>(src, pos, dst, at, back, n, pixel),
-        _ => part_of::<3>(src, pos, dst, at, back, n, pixel),
+        1 => part_of::<1>(mask, dst, at, back, n, pixel),
+        2 => part_of::<2>(mask, dst, at, back, n, pixel),
+        _ => part_of::<3>(mask, dst, at, back, n, pixel),
     }
 }

@@ -1,8 +1,8 @@
 // Whole masks: eight pixels of D bytes at a time, N bytes.
-ghost use Rattle.std.specs.Prelude.{◌≡◌, ℕ, ◌+◌, ◌*◌, ◌/◌, ◌%◌, ◌≤◌, ◌<◌, ◌==◌, if◌then◌else◌, bit_and, length, get_or};
-ghost use Rattle.byte_runs.specs.Runs.{run, mixed, bytes, inked_by, turn, xored, masked_by};
+ghost use Rattle.std.specs.Prelude.{◌≡◌, true, ℕ, ◌+◌, ◌*◌, ◌/◌, ◌≤◌, ◌<◌, ◌==◌, if◌then◌else◌, bit_and, length, get_or};
+ghost use Rattle.byte_runs.specs.Runs.{Eight, run, listed, row_there, row_holds, row_bytes, inked_by, masked_by};
 
-use byte_runs::pattern;
+use byte_runs::{byte_back, pattern};
 
 // What a mask that stands twice in 16 bits is tested against for each of its bits: bits 0 to 3 in the upper copy and bits 4 to 7 in the
 // lower, so that none is a sign bit, which the compiler would test in a way of its own and not by vector code.
@@ -10,7 +10,7 @@ const BITS: [u16; 8] = [256, 512, 1024, 2048, 16, 32, 64, 128];
 
 // For each byte the test of its pixel's bit.
 fn tests<const D: usize, const N: usize>() -> [u16; N]
-    requires { (1 ≤ D) × (N ≡ 8 * D) }
+    requires { Eight D N }
     ensures { (i : ℕ) → i < N → get_or result i 0 ≡ get_or BITS (i / D) 0 }
 {
     let mut t = [0; N];
@@ -27,84 +27,59 @@ fn ink(twice: u16, test: u16, a: u8) -> u8
     if twice & test == test { a } else { 0 }
 }
 
-// One mask in the first row; the color is given over and over. Inlined, as the next one, so that the compiler keeps both arrays in registers.
-#[inline(always)]
-fn put_mask<const D: usize, const N: usize>(
-    dst: &mut [u8],
-    to: usize,
-    m: u8,
-    tests: &[u16; N],
-    color: &[u8; 48],
-)
-    requires in_bounds { (1 ≤ D) × (D ≤ 3) × (N ≡ 8 * D) × (to + N ≤ length dst.old) }
-    requires by_bit { (i : ℕ) → i < N → get_or tests.now i 0 ≡ get_or BITS (i / D) 0 }
-    ensures { dst.new ≡ run (bytes (inked_by m D color.now)) to N dst.old }
+// The bytes of t, by an index: a proof knows nothing of a slice's elements once `iter_mut().zip` has lent them.
+fn store<const N: usize>(dst: &mut [u8], to: usize, t: &[u8; N])
+    requires { to + N ≤ length dst.old }
+    ensures { dst.new ≡ run (listed t.now) to N dst.old }
 {
-    let twice = (m as u16) * 257;
     for i in 0..N {
-        dst[to + i] = ink(twice, tests[i], color[i]);
+        dst[to + i] = t[i];
     }
 }
 
-// One mask in later rows, read whole before it is written.
+// One mask, read whole before it is written; the color is given over and over. Inlined, so that the compiler keeps both arrays in registers.
+// In the first row a store for each byte: of a copy the compiler makes at 8 bpp a number of 64 bits that it puts together byte by byte, which
+// takes 29 instructions a mask in place of 13. In later rows a copy: of stores it makes at 8 bpp tests of places for many masks at once, 1000
+// instructions more for an order of 64 pixels.
 #[inline(always)]
-fn xor_mask<const D: usize, const N: usize>(
+fn put_mask<const D: usize, const N: usize>(
+    m: u8,
     dst: &mut [u8],
     to: usize,
-    from: usize,
-    m: u8,
+    back: Option<usize>,
     tests: &[u16; N],
     color: &[u8; 48],
 )
-    requires in_bounds { (1 ≤ D) × (D ≤ 3) × (N ≡ 8 * D) × (to + N ≤ length dst.old) × (from + N ≤ length dst.old) }
+    requires in_bounds { Eight D N × (to + N ≤ length dst.old) × (row_there back to ≡ true) × (row_holds back N ≡ true) }
     requires by_bit { (i : ℕ) → i < N → get_or tests.now i 0 ≡ get_or BITS (i / D) 0 }
-    ensures { dst.new ≡ run (mixed dst.old from (inked_by m D color.now)) to N dst.old }
+    ensures { dst.new ≡ run (row_bytes back to (inked_by m D color.now)) to N dst.old }
 {
     let twice = (m as u16) * 257;
     let mut t = [0; N];
     for i in 0..N {
-        t[i] = dst[from + i] ^ ink(twice, tests[i], color[i]);
+        t[i] = byte_back(dst, to, i, back) ^ ink(twice, tests[i], color[i]);
     }
-    dst[to..to + N].copy_from_slice(&t);
-}
-
-// m masks in the first row.
-pub(crate) fn first<const D: usize, const N: usize>(
-    src: &[u8],
-    pos: usize,
-    dst: &mut [u8],
-    at: usize,
-    m: usize,
-    pixel: [u8; 3],
-)
-    requires { (1 ≤ D) × (D ≤ 3) × (48 % D ≡ 0) × (N ≡ 8 * D) × (at + m * N ≤ length dst.old) × (pos + m ≤ length src.now) }
-    ensures { dst.new ≡ run (bytes (masked_by src.now pos D pixel)) at (m * N) dst.old }
-{
-    let tests = tests::<D, N>();
-    let color = pattern::<D, 48>(pixel);
-    for i in 0..m {
-        put_mask::<D, N>(dst, at + i * N, src[pos + i], &tests, &color);
+    match back {
+        None => store(dst, to, &t),
+        Some(_) => dst[to..to + N].copy_from_slice(&t),
     }
 }
 
-// m masks in later rows, which are no shorter than eight pixels.
-pub(crate) fn later<const D: usize, const N: usize>(
-    src: &[u8],
-    pos: usize,
+// Whole masks, in rows of eight pixels at least. Inlined in both of its places, so that the compiler knows whether there is a row above.
+#[inline(always)]
+pub(crate) fn whole<const D: usize, const N: usize>(
+    masks: &[u8],
     dst: &mut [u8],
     at: usize,
-    row: usize,
-    m: usize,
+    back: Option<usize>,
     pixel: [u8; 3],
 )
-    requires in_bounds { (at + m * N ≤ length dst.old) × (pos + m ≤ length src.now) × (N ≤ row) × (row ≤ at) }
-    requires depth { (1 ≤ D) × (D ≤ 3) × (48 % D ≡ 0) × (N ≡ 8 * D) }
-    ensures { dst.new ≡ run (xored at row (masked_by src.now pos D pixel)) at (m * N) dst.old }
+    requires { Eight D N × (at + length masks.now * 8 * D ≤ length dst.old) × (row_there back at ≡ true) × (row_holds back N ≡ true) }
+    ensures { dst.new ≡ run (row_bytes back at (masked_by masks.now 0 D pixel)) at (length masks.now * 8 * D) dst.old }
 {
     let tests = tests::<D, N>();
     let color = pattern::<D, 48>(pixel);
-    for i in 0..m {
-        let to = at + i * N;
-        xor_mask::<D, N>(dst, to, to - row, src[pos + i], &tests, &color);
+    for (i, m) in masks.iter().enumerate() {
+        put_mask::<D, N>(*m, dst, at + i * 8 * D, back, &tests, &color);
     }
 }

@@ -2,11 +2,12 @@
 #![tactic(auto)]
 
 ghost use Rattle.std.specs.Prelude.{◌≡◌, ℕ, ◌+◌, ◌*◌, ◌%◌, ◌≤◌, ◌<◌, leb, length, get_or};
-ghost use Rattle.byte_runs.specs.Runs.{run, run_where, both, pixels_there, xored, mixed, turn, each};
+ghost use Rattle.byte_runs.specs.Runs.{Depth, run, run_where, both, pixels_there, xored, mixed, turn, each};
 
-use byte_runs::{pattern, pixels_fit};
+use byte_runs::{pattern, pixels_fit, put_pixel};
 
-// One block, read whole before it is written. Inlined, so that the compiler keeps the pattern in registers.
+// One block, read whole before it is written: by an index, since a proof knows nothing of an array's elements once `iter_mut().zip` has lent
+// them. Inlined, so that the compiler keeps the pattern in registers.
 #[inline(always)]
 fn xor_block(dst: &mut [u8], to: usize, from: usize, w: &[u8; 48])
     requires { (to + 48 ≤ length dst.old) × (from + 48 ≤ length dst.old) }
@@ -21,8 +22,8 @@ fn xor_block(dst: &mut [u8], to: usize, from: usize, w: &[u8; 48])
 
 // By blocks, the last one overlapping.
 fn xor_blocks<const D: usize>(dst: &mut [u8], at: usize, len: usize, row: usize, pixel: [u8; 3])
-    requires len_in_bounds { (at + len ≤ length dst.old) × ((row ≤ at) × ((48 ≤ row) × (48 ≤ len))) }
-    requires le_d { (1 ≤ D) × ((D ≤ 3) × ((48 % D ≡ 0) × (len % D ≡ 0))) }
+    requires in_bounds { (at + len ≤ length dst.old) × (row ≤ at) × (48 ≤ row) × (48 ≤ len) }
+    requires whole_pixels { Depth D × (len % D ≡ 0) }
     ensures { dst.new ≡ run (xored at row (turn pixel D)) at len dst.old }
 {
     let t = pattern::<D, 48>(pixel);
@@ -33,29 +34,19 @@ fn xor_blocks<const D: usize>(dst: &mut [u8], at: usize, len: usize, row: usize,
     }
 }
 
-// One pixel, byte by byte: the row may be shorter.
-fn xor_pixel<const D: usize>(dst: &mut [u8], at: usize, row: usize, pixel: [u8; 3])
-    requires { (D ≤ 3) × (at + D ≤ length dst.old) × (row ≤ at) }
-    ensures { dst.new ≡ run (xored at row (each pixel)) at D dst.old }
-{
-    for j in 0..D {
-        dst[at + j] = dst[at - row + j] ^ pixel[j];
-    }
-}
-
 // Pixels one by one.
 fn xor_few<const D: usize>(dst: &mut [u8], at: usize, n: usize, row: usize, pixel: [u8; 3])
-    requires { (1 ≤ D) × (D ≤ 3) × (at + n * D ≤ length dst.old) × (row ≤ at) }
+    requires { Depth D × (at + n * D ≤ length dst.old) × (row ≤ at) }
     ensures { dst.new ≡ run (xored at row (turn pixel D)) at (n * D) dst.old }
 {
     for i in 0..n {
-        xor_pixel::<D>(dst, at + i * D, row, pixel);
+        put_pixel::<D>(dst, at + i * D, Some(row), pixel);
     }
 }
 
 // By blocks where the run and the row hold one; pixels of one byte the compiler takes many at a time by itself.
 fn xor_run<const D: usize>(dst: &mut [u8], at: usize, n: usize, row: usize, pixel: [u8; 3])
-    requires { (1 ≤ D) × (D ≤ 3) × (48 % D ≡ 0) × (at + n * D ≤ length dst.old) × (row ≤ at) }
+    requires { Depth D × (at + n * D ≤ length dst.old) × (row ≤ at) }
     ensures { dst.new ≡ run (xored at row (turn pixel D)) at (n * D) dst.old }
 {
     let len = n * D;

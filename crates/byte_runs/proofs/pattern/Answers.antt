@@ -1,11 +1,10 @@
 -- `pattern` meets its contract: the pixel is in the array i times. Assumes nothing.
-use Rattle.std.proofs.Common.{ℕ, ◌≡◌, ◌+◌, ◌*◌, ◌/◌, ◌≤◌, ◌<◌, List, ap, sym, refl, ◌∙◌, arith, get_or, zero-add}
+use Rattle.std.proofs.Common.{None, ℕ, ◌≡◌, ◌+◌, ◌*◌, ◌/◌, ◌≤◌, ◌<◌, List, ap, sym, refl, ◌∙◌, arith, get_or, zero-add}
 use Rattle.std.proofs.lemmas.List.{length-replicate}
 use lib.ListN.{replicate}
 use native.Mathlib.Nat.{div-mul-le_self, le-div_iff_mul-le}
 use Rattle.byte_runs.specs.Runs.{run, bytes, turn, each}
-use Rattle.byte_runs.proofs.Blocks.{bytes_block}
-use Rattle.byte_runs.proofs.Pixels.{turn_byte}
+use Rattle.byte_runs.proofs.Pixels.{row_then, turn_byte}
 use Rattle.byte_runs.proofs.Runs.{run_none, run_settled}
 use Rattle.byte_runs.proofs.pattern.Goals as goal
 
@@ -22,9 +21,8 @@ loop-i-preserved g c =
     record {
       long = omega arith;
       filled =
-          bytes_block (each px) (turn px D) 0 (l.i * D) (l.i * D) D ((l.i + 1) * D) (l.i * D) _ _ _
-          (λ k q. sym (turn_byte D l.i k px q)) (omega arith) (omega arith) (omega arith) (omega arith) (omega (arith, length-replicate {A = ℕ} g.row.N 0))
-          c.put_pixel.ensures l.invariant.filled;
+          row_then None (each px) (turn px D) 0 (l.i * D) D ((l.i + 1) * D) _ _ _
+          (λ k q. sym (turn_byte D l.i k px q)) (omega arith) (rw zero-add c.put_pixel.ensures) l.invariant.filled;
     }
 
 pub returns : goal.returns

@@ -1,8 +1,9 @@
 -- `put_pixel` meets its contract: j bytes are stored. Assumes nothing.
-use Rattle.std.proofs.Common.{refl, arith}
+use Rattle.std.proofs.Common.{◌+◌, refl, arith}
 use lib.ListN.{length-set}
-use Rattle.byte_runs.specs.Runs.{run}
-use Rattle.byte_runs.proofs.Runs.{run_more}
+use Rattle.byte_runs.specs.Runs.{run, row_bytes, each}
+use Rattle.byte_runs.proofs.Pixels.{row_byte}
+use Rattle.byte_runs.proofs.Runs.{store_more}
 use Rattle.byte_runs.proofs.put_pixel.Goals as goal
 
 pub loop-j-init : goal.loop-j-init
@@ -10,4 +11,12 @@ unfolding run
 loop-j-init g c = record { long = refl; stored = refl }
 
 pub loop-j-preserved : goal.loop-j-preserved
-loop-j-preserved g c = record { long = simp length-set (omega arith); stored = run_more _ _ _ _ _ c.loop-j.invariant.stored }
+loop-j-preserved g c =
+    let a = c.args in
+    let l = c.loop-j in
+    record {
+      long = simp length-set (omega arith);
+      stored =
+          store_more (row_bytes a.back a.at (each a.pixel)) a.at l.j (a.at + l.j) _ l.dst a.dst.now refl
+          (row_byte a.back (each a.pixel) a.at l.j _ _ l.dst c.byte_back.ensures refl) l.invariant.stored;
+    }

@@ -1,9 +1,15 @@
 -- `copy_rows` meets its contract: what is there from a row back on are the row's bytes, over and over. Assumes nothing.
-use Rattle.std.proofs.Common.{ℕ, ◌+◌, ◌-◌, ◌*◌, ◌%◌, ◌≤◌, ◌∙◌, ◌≡◌, ap, add-zero, arith}
+use Rattle.std.proofs.Common.{ℕ, ◌+◌, ◌-◌, ◌*◌, ◌%◌, ◌≤◌, ◌∙◌, ◌≡◌, ap, sym, add-zero, get_or, arith}
 use Rattle.std.proofs.Math.Nat.{mod_self}
-use Rattle.byte_runs.specs.Runs.{run, bytes, repeated}
+use Rattle.byte_runs.specs.Runs.{run, bytes, above, repeated}
 use Rattle.byte_runs.proofs.Patterns.{own-run, repeated_more, repeated_back, mod_sum}
+use Rattle.byte_runs.proofs.Runs.{run_idle}
 use Rattle.copy.proofs.copy_rows.Goals as goal
+
+pub returns-then-row-eq0 : goal.returns-then-row-eq0
+returns-then-row-eq0 c =
+    let a = c.args in
+    sym (run_idle (above a.at a.row) a.at a.len a.dst.now (λ k h. let same : a.at + k - a.row ≡ a.at + k = omega arith in ap (λ (j : ℕ). get_or a.dst.now j 0) same))
 
 pub loop-done-init : goal.loop-done-init
 loop-done-init c =

@@ -1,7 +1,7 @@
 -- `xor_blocks` meets its contract: the run is written up to i, or to its end; i is a multiple of the period. Assumes nothing.
 use Rattle.std.proofs.Common.{◌≡◌, ◌+◌, refl, arith, min}
 use native.Mathlib.Nat.{zero-mod}
-use Rattle.byte_runs.proofs.Patterns.{pattern_block, mod_sum, whole_pattern}
+use Rattle.byte_runs.proofs.Patterns.{pattern_block, mod_sum, whole_pattern, whole_pixels}
 use Rattle.byte_runs.proofs.Runs.{run_none}
 use Rattle.xor.proofs.xor_blocks.Goals as goal
 
@@ -13,12 +13,12 @@ loop-i-preserved g c =
     let a = c.args in
     let l = c.loop-i in
     record {
-      period = mod_sum l.i 48 g.row.D l.invariant.period (omega arith);
+      period = mod_sum l.i 48 g.row.D l.invariant.period (whole_pixels g.row.D (omega arith) (omega arith));
       long = omega arith;
       written =
           pattern_block a.pixel c.pattern-t.result g.row.D a.at a.row l.i a.len c.min.result _ _ _ c.min.ensures (omega arith) (omega arith) (omega arith) (omega arith) (omega arith)
-          (omega arith) (omega arith) l.invariant.period
-          (whole_pattern a.pixel c.pattern-t.result g.row.D 48 (omega arith) (omega arith) (omega arith) c.pattern-t.ensures)
+          (omega arith) (omega arith) (omega arith) l.invariant.period
+          (whole_pattern a.pixel c.pattern-t.result g.row.D (omega arith) (omega arith) c.pattern-t.ensures)
           c.xor_block.ensures l.invariant.written;
     }
 
@@ -28,6 +28,6 @@ returns-2 g c =
     let l = c.loop-i in
     let end : min (l.i + 48) a.len ≡ a.len = omega arith in
     rw (← end) (pattern_block a.pixel c.pattern-t.result g.row.D a.at a.row l.i a.len c.min.result _ _ _ c.min.ensures (omega arith) (omega arith) (omega arith) (omega arith) (omega arith)
-    (omega arith) (omega arith) l.invariant.period
-    (whole_pattern a.pixel c.pattern-t.result g.row.D 48 (omega arith) (omega arith) (omega arith) c.pattern-t.ensures)
+    (omega arith) (omega arith) (omega arith) l.invariant.period
+    (whole_pattern a.pixel c.pattern-t.result g.row.D (omega arith) (omega arith) c.pattern-t.ensures)
     c.xor_block.ensures l.invariant.written)

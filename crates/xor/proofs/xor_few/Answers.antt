@@ -1,8 +1,8 @@
 -- `xor_few` meets its contract: i pixels are written. Assumes nothing.
-use Rattle.std.proofs.Common.{refl, sym, arith, ◌+◌, ◌*◌}
+use Rattle.std.proofs.Common.{Some, refl, sym, arith, ◌+◌, ◌*◌}
 use Rattle.byte_runs.specs.Runs.{turn, each}
 use Rattle.byte_runs.proofs.Runs.{run_none}
-use Rattle.byte_runs.proofs.Pixels.{xored_then, turn_byte}
+use Rattle.byte_runs.proofs.Pixels.{row_then, turn_byte}
 use Rattle.xor.proofs.xor_few.Goals as goal
 
 pub loop-i-init : goal.loop-i-init
@@ -15,6 +15,6 @@ loop-i-preserved g c =
     record {
       long = omega arith;
       written =
-          xored_then (each a.pixel) (turn a.pixel g.row.D) a.at a.row (l.i * g.row.D) g.row.D ((l.i + 1) * g.row.D) c.xor_pixel.new.dst l.dst a.dst.now
-          (λ k q. sym (turn_byte g.row.D l.i k a.pixel q)) (omega arith) c.xor_pixel.ensures l.invariant.written;
+          row_then (Some a.row) (each a.pixel) (turn a.pixel g.row.D) a.at (l.i * g.row.D) g.row.D ((l.i + 1) * g.row.D) _ l.dst a.dst.now
+          (λ k q. sym (turn_byte g.row.D l.i k a.pixel q)) (omega arith) c.put_pixel.ensures l.invariant.written;
     }

@@ -1,8 +1,8 @@
 -- `narrow` meets its contract: i masks are written. Assumes nothing.
-use Rattle.std.proofs.Common.{◌+◌, ◌*◌, refl, arith}
-use Rattle.byte_runs.specs.Runs.{masked_by}
-use Rattle.byte_runs.proofs.Masks.{masks-from}
-use Rattle.byte_runs.proofs.Pixels.{xored_then}
+use Rattle.std.proofs.Common.{◌+◌, ◌*◌, refl, arith, get_or}
+use Rattle.byte_runs.specs.Runs.{mask_by, masked_by}
+use Rattle.byte_runs.proofs.Masks.{mask_after}
+use Rattle.byte_runs.proofs.Pixels.{row_then}
 use Rattle.byte_runs.proofs.Runs.{run_none}
 use Rattle.mask.proofs.part.narrow.Goals as goal
 
@@ -17,6 +17,6 @@ loop-i-preserved g c =
     record {
       long = omega arith;
       written =
-          xored_then (masked_by a.src.now (a.pos + l.i) D a.pixel) (masked_by a.src.now a.pos D a.pixel) a.at a.row (l.i * 8 * D) (8 * D) ((l.i + 1) * 8 * D) _ l.dst _
-          (λ k q. masks-from a.src.now a.pixel a.pos D l.i k (omega arith)) (omega arith) c.xor_part.ensures l.invariant.written;
+          row_then a.back (mask_by (get_or a.masks.now l.i 0) D a.pixel) (masked_by a.masks.now 0 D a.pixel) a.at (l.i * 8 * D) (8 * D) ((l.i + 1) * 8 * D) _ l.dst _
+          (λ k q. mask_after a.masks.now a.pixel D l.i k (omega arith) q) (omega arith) c.part.ensures l.invariant.written;
     }

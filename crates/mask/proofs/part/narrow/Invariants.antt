@@ -1,10 +1,10 @@
 -- `narrow` meets its contract: i masks are written. Assumes nothing.
 use Rattle.std.proofs.Common.{◌≡◌, ◌*◌, length}
-use Rattle.byte_runs.specs.Runs.{run, xored, masked_by}
+use Rattle.byte_runs.specs.Runs.{run, row_bytes, masked_by}
 use Rattle.mask.proofs.part.narrow.Given as goal
 
 abbrev pub invariant-loop-i : goal.invariant-loop-i
 invariant-loop-i g l = record {
   long : length l.dst ≡ length l.initial.dst;
-  written : l.dst ≡ run (xored l.at l.row (masked_by l.src l.pos g.row.D l.pixel)) l.at (l.i * 8 * g.row.D) l.initial.dst;
+  written : l.dst ≡ run (row_bytes l.back l.at (masked_by l.masks 0 g.row.D l.pixel)) l.at (l.i * 8 * g.row.D) l.initial.dst;
 }

@@ -1,10 +1,11 @@
--- `put_mask` meets its contract: i bytes are written, each by its bit. Assumes nothing.
-use Rattle.std.proofs.Common.{◌≡◌, length}
-use Rattle.byte_runs.specs.Runs.{run, bytes, inked_by}
+-- `put_mask` meets its contract: i bytes are in the array, each by its bit. Assumes nothing.
+use Rattle.std.proofs.Common.{ℕ, ◌≡◌, ◌+◌, ◌<◌, length, get_or}
+use Rattle.std.specs.Int.Bits.{bit_xor}
+use Rattle.byte_runs.specs.Runs.{byte_back, inked_by}
 use Rattle.mask.proofs.whole.put_mask.Given as goal
 
 abbrev pub invariant-loop-i : goal.invariant-loop-i
 invariant-loop-i g l = record {
-  long : length l.dst ≡ length l.initial.dst;
-  written : l.dst ≡ run (bytes (inked_by l.m g.row.D l.color)) l.to l.i l.initial.dst;
+  long : length l.t ≡ g.row.N;
+  filled : (k : ℕ) → k < l.i → get_or l.t k 0 ≡ bit_xor (byte_back l.back (l.to + k) l.dst) (inked_by l.m g.row.D l.color k);
 }

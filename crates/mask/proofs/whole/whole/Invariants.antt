@@ -1,0 +1,10 @@
+-- `whole` meets its contract: i masks are written. Assumes nothing.
+use Rattle.std.proofs.Common.{◌≡◌, ◌*◌, length}
+use Rattle.byte_runs.specs.Runs.{run, row_bytes, masked_by}
+use Rattle.mask.proofs.whole.whole.Given as goal
+
+abbrev pub invariant-loop-i : goal.invariant-loop-i
+invariant-loop-i g l = record {
+  long : length l.dst ≡ length l.initial.dst;
+  written : l.dst ≡ run (row_bytes l.back l.at (masked_by l.masks 0 g.row.D l.fn.pixel)) l.at (l.i * 8 * g.row.D) l.initial.dst;
+}
