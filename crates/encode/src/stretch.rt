@@ -4,7 +4,7 @@ use crate::order::MAX_RUN;
 use crate::pixels::Pixels;
 
 impl Pixels<'_> {
-    ghost use Rattle.std.specs.Prelude.{◌≡◌, false, ◌+◌, ◌-◌, ◌/◌, ◌≤◌, ◌<◌, eqb, min};
+    ghost use Rattle.std.specs.Prelude.{◌≡◌, false, not, ◌+◌, ◌-◌, ◌/◌, ◌≤◌, ◌<◌, eqb, min};
     ghost use Rattle.base.specs.Picks.{pick};
     ghost use Rattle.encoding.specs.Encode.{stretch, equal_at, above_at, start_at, is_none, image_at};
     ghost use Rattle.encode.specs.Pixels.{pixels_in, same_as_back};
@@ -63,21 +63,13 @@ impl Pixels<'_> {
         self.stretch_at(k, self.width, self.most(k))
     }
 
-    // Whether no run starts at pixel k, which does not directly follow a background run.
-    fn no_run_at(self, k: usize) -> bool
-        requires { k < self.total }
-        ensures { result ≡ is_none (start_at self.entry.width (pixels_in self.entry) k false) }
+    // Whether a run starts at pixel k, which does not directly follow a background run, and has two pixels behind it: with fewer there
+    // is none.
+    fn run_at(self, k: usize) -> bool
+        requires { k + 3 ≤ self.total }
+        ensures { result ≡ not (is_none (start_at self.entry.width (pixels_in self.entry) k false)) }
     {
-        if self.total - k < 3 {
-            return true;
-        }
-        if self.is_stretch(k + 1, 1, 2) {
-            return false;
-        }
-        if k < self.width {
-            return true;
-        }
-        !self.is_stretch(k, self.width, 3)
+        self.is_stretch(k + 1, 1, 2) || (self.width <= k && self.is_stretch(k, self.width, 3))
     }
 
     // The pixels of an image from pixel k on.
@@ -86,11 +78,9 @@ impl Pixels<'_> {
         ensures { result ≡ image_at self.entry.width (pixels_in self.entry) k }
     {
         let last = self.most(k);
-        for n in 1..last {
-            if !self.no_run_at(k + n) {
-                return n;
-            }
-        }
-        last
+        let end = last.min((self.total - k).saturating_sub(2));
+        (1..end)
+            .find(|n| self.run_at(k + *n))
+            .unwrap_or(last)
     }
 }
