@@ -150,8 +150,8 @@ module _ (p : Pixels) (k : ℕ) (inside : k < p.total) where
 -- the search for the first later pixel at which a run starts, among those that have two pixels behind them
 pub image-found : (p : Pixels) (k end : ℕ) → k < p.total → end ≡ min (min 65535 (p.total - k)) (p.total - k - 2) → (r : Option ℕ)
     → MatchOption r ((i : ℕ) → 1 ≤ i → i < end → not (is_none (start_at p.width (pixels_in p) (k + i) false)) ≡ false)
-        (λ n. (1 ≤ n) × (n < end) × (not (is_none (start_at p.width (pixels_in p) (k + n) false)) ≡ true)
-        × ((i : ℕ) → 1 ≤ i → i < n → not (is_none (start_at p.width (pixels_in p) (k + i) false)) ≡ false))
+    (λ n. (1 ≤ n) × (n < end) × (not (is_none (start_at p.width (pixels_in p) (k + n) false)) ≡ true)
+    × ((i : ℕ) → 1 ≤ i → i < n → not (is_none (start_at p.width (pixels_in p) (k + i) false)) ≡ false))
     → unwrap_or r (min 65535 (p.total - k)) ≡ image_at p.width (pixels_in p) k
 image-found p k end inside e None no_run =
     image-is p k inside (min 65535 (p.total - k)) (omega arith) (omega arith)

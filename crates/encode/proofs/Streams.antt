@@ -20,6 +20,7 @@ use Rattle.encoding.specs.Encode.{is_bg_run, order_at, order_bytes, encode}
 use Rattle.encoding.specs.Bound.{head_size, overhead}
 use Rattle.encoding.proofs.Bound.{stream-bound}
 use Rattle.encoding.proofs.Rest.{order-counted, rest, rest_all, rest_more, rest_end}
+use Rattle.encode.specs.declared.order.Kind.TheVariants.{ColorImage}
 use Rattle.encode.specs.declared.order.Order.{Order}
 use Rattle.encode.specs.declared.orders.Orders.{Orders}
 use Rattle.encode.specs.declared.pixels.Pixels.{Pixels}
@@ -41,7 +42,7 @@ abbrev pub to_come : Pixels → ℕ → Bool → List ℕ
 to_come p k after = rest p.width (pixels_in p) p.bytes k after
 
 abbrev pub rest_of : Orders → List ℕ
-rest_of s = to_come s.pixels.now s.k s.after
+rest_of s = to_come s.pixels.now s.k (is_background s.before)
 
 -- the bytes of an order of the code from pixel k on
 abbrev pub bytes_for : Pixels → ℕ → Order → List ℕ
@@ -64,24 +65,24 @@ step p s k o t over x = subst (λ (p : Pixels). Step p s k o t) over (record { e
 
     ends : k + o.pixels ≤ q.total
     ends =
-        let c = order-counted q.width (pixels_in q) k s.after (rw size x.inside) in
+        let c = order-counted q.width (pixels_in q) k (is_background s.before) (rw size x.inside) in
         omega (arith, x.inside, x.is.count, rw size at c.few)
 
     next : rest_of s ≡ bytes_for q k o ++ rest_of t
     next =
-        let background : is_bg_run (order_at q.width (pixels_in q) k s.after) ≡ is_background o.kind =
+        let background : is_bg_run (order_at q.width (pixels_in q) k (is_background s.before)) ≡ is_background o.kind =
         ap is_bg_run (sym x.is.is) ∙ background-is (pixels_in q) k o.pixels o.kind in
-        let here = rest_more q.width (pixels_in q) q.bytes k s.after (rw size x.inside) in
-        rw (← x.place, x.rest.pixels, x.rest.next, x.rest.background)
+        let here = rest_more q.width (pixels_in q) q.bytes k (is_background s.before) (rw size x.inside) in
+        rw (← x.place, x.rest.pixels, x.rest.next, x.rest.before)
         (here ∙ (λ i. order_bytes q.bytes (sym x.is.is i) ++ to_come q (k + sym x.is.count i) (background i)))
 
 -- no order is left
 pub nothing_left : (s : Orders) → s.pixels.now.total ≤ s.k → rest_of s ≡ []
-nothing_left s h = rest_end s.pixels.now.width (pixels_in s.pixels.now) s.pixels.now.bytes s.k s.after (rw length-pixels_of h)
+nothing_left s h = rest_end s.pixels.now.width (pixels_in s.pixels.now) s.pixels.now.bytes s.k (is_background s.before) (rw length-pixels_of h)
 
 -- all orders are
-pub all_left : (p : Pixels) (s : Orders) → OrdersFrom p 0 false s → rest_of s ≡ stream_in p
-all_left p s x = rw (x.pixels, x.next, x.background) (rest_all p.width (pixels_in p) p.bytes)
+pub all_left : (p : Pixels) (s : Orders) → OrdersFrom p 0 ColorImage s → rest_of s ≡ stream_in p
+all_left p s x = rw (x.pixels, x.next, x.before) (rest_all p.width (pixels_in p) p.bytes)
 
 module _ (p : Pixels) (k : ℕ) (o : Order) (ends : k + o.pixels ≤ p.total) where
   pub length-order : length (bytes_for p k o) ≡ head_size o.pixels + pixels_held o.kind o.pixels * p.bytes

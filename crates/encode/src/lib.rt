@@ -8,6 +8,7 @@ ghost use Rattle.encode.specs.Promises.{Compresses};
 pub(crate) mod bytes;
 pub mod error;
 pub(crate) mod head;
+pub(crate) mod image;
 pub(crate) mod order;
 pub(crate) mod orders;
 pub(crate) mod pixels;
