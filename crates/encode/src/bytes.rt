@@ -16,12 +16,7 @@ pub(crate) fn same_bytes(here: &[u8], back: &[u8]) -> bool
     requires { length here.now ≡ length back.now }
     ensures { result ≡ same_bytes here.now back.now }
 {
-    for i in 0..here.len() {
-        if here[i] != back[i] {
-            return false;
-        }
-    }
-    true
+    here.iter().zip(back).all(|(a, b)| *a == *b)
 }
 
 // How many bytes are the same at the start, counted one by one.
