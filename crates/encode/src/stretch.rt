@@ -58,6 +58,7 @@ impl Place<'_> {
         if before == Kind::BgRun || self.k < self.pixels.width {
             return 0;
         }
-        self.pixels.stretch_at(self.k, self.pixels.width, self.most())
+        self.pixels
+            .stretch_at(self.k, self.pixels.width, self.most())
     }
 }

@@ -1,7 +1,6 @@
 -- `above` meets its contract. Assumes nothing.
 use mathlib.Core.Path.{◌≡◌, sym, ◌∙◌}
 use Rattle.std.proofs.Common.{rules}
-use Rattle.base.specs.Picks.{pick}
 use Rattle.encode.specs.Orders.{is_background}
 use Rattle.encode.proofs.Starts.{above-none, above-back}
 use Rattle.encode.proofs.pixels.Place.above.Goals.{then-eq-via-then-eq, then-eq-via-else-eq+then-self}
