@@ -6,7 +6,8 @@ ghost use Rattle.encode.specs.Pixels.{pixels_in};
 use crate::bytes::same_bytes;
 use crate::pixels::{Pixels, Place};
 
-// Pixels of D bytes. By the constant a loop over pixels compares their bytes one after the other without a loop of its own.
+// Pixels of D bytes. By the constant a pixel of noise takes 13, 14 and 16 instructions at 8, 16 and 24 bpp; by `bytes`, and an index over
+// the bytes, 23, 24 and 25.
 #[derive(Clone, Copy)]
 struct PixelsOf<'a, const D: usize> {
     pixels: Pixels<'a>,

@@ -26,7 +26,7 @@ impl<'a> Pixels<'a> {
     ghost use Rattle.std.specs.Prelude.{◌≡◌, ◌+◌};
     ghost use Rattle.encode.specs.Pixels.{bytes_in};
 
-    // The bytes of n pixels from pixel k on.
+    // The bytes of n pixels from pixel k on. Two numbers, and not a struct with its bound: each caller would make one for one call.
     pub(crate) fn bytes_of(&self, k: usize, n: usize) -> &'a [u8]
         requires { k + n ≤ self.now.total }
         ensures { result.now ≡ bytes_in self.now k n }

@@ -60,7 +60,7 @@ impl Pixels<'_> {
         self.stream_len() <= room
     }
 
-    // Writes the stream, which has room in dst; its length.
+    // Writes the stream, which has room in dst; its length. By a loop: what a closure of `fold` changes in dst is not known behind it.
     pub(crate) fn write_stream(&self, dst: &mut [u8]) -> usize
         requires { length (stream_in self.now) ≤ length dst.old }
         ensures { Writes (stream_in self.now) dst.old dst.new result }

@@ -12,7 +12,8 @@ pub mod records;
 
 use picture::Numbers;
 
-// Of these, what C is told of a refusal everywhere: its number (0: none) and its two values.
+// Of these, what C is told of a refusal everywhere: its number (0: none) and its two values. Functions, and no From: an array of numbers
+// is of no crate here.
 pub(crate) fn refusal_numbers(n: Numbers) -> [u64; 3]
     ensures { result ≡ n.refusal ∷ n.first ∷ n.second ∷ [] }
 {
