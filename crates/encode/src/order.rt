@@ -2,7 +2,7 @@
 ghost use Rattle.std.specs.Prelude.{◌≡◌, ◌≤◌};
 ghost use Rattle.encode.specs.Orders.{kind_number};
 
-use crate::pixels::Pixels;
+use crate::pixels::Place;
 
 // Every order stops here.
 pub(crate) const MAX_RUN: usize = 65535;
@@ -33,19 +33,18 @@ pub(crate) struct Order {
     pub(crate) ghost few: { pixels ≤ 65535 },
 }
 
-impl Pixels<'_> {
-    ghost use Rattle.std.specs.Prelude.{◌<◌};
+impl Place<'_> {
     ghost use Rattle.encode.specs.Pixels.{pixels_in};
-    ghost use Rattle.encode.specs.Orders.{OrderAt};
+    ghost use Rattle.encode.specs.Orders.{is_background, OrderAt};
 
-    // The order at pixel k, directly after a background run or not. Out of line, so that `next` of `Orders` is small and loops take it in.
+    // The order here, with the kind of the order before: directly after a background run there is no other. Out of line, so that `next` of
+    // `Orders` is small and loops take it in.
     #[inline(never)]
-    pub(crate) fn order_at(&self, k: usize, after: bool) -> Order
-        requires { k < self.now.total }
-        ensures { OrderAt self.now.width (pixels_in self.now) k after result.kind result.pixels }
+    pub(crate) fn order(self, before: Kind) -> Order
+        ensures { OrderAt self.entry.pixels.now.width (pixels_in self.entry.pixels.now) self.entry.k (is_background before) result.kind result.pixels }
     {
-        let equal = self.equal_at(k);
-        let above = self.above_at(k, after);
+        let equal = self.equal();
+        let above = self.above(before);
         if 3 <= above && equal <= above {
             return Order {
                 kind: Kind::BgRun,
@@ -60,7 +59,7 @@ impl Pixels<'_> {
         }
         Order {
             kind: Kind::ColorImage,
-            pixels: self.image_at(k),
+            pixels: self.image(),
         }
     }
 }

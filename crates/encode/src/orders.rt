@@ -1,27 +1,27 @@
 // The orders of a picture's stream, one after the other.
 use crate::order::{Kind, Order};
-use crate::pixels::Pixels;
+use crate::pixels::{Pixels, Place};
 
 // Each comes with the pixel that it starts at.
 #[derive(Drop)]
 pub(crate) struct Orders<'a> {
     pixels: &'a Pixels<'a>,
     k: usize,
-    // Whether the order before was a background run.
-    after: bool,
+    // The kind of the order before. At the start that of an image, after which every order may stand too.
+    before: Kind,
 }
 
 impl<'a> Pixels<'a> {
-    ghost use Rattle.std.specs.Prelude.{◌≡◌, false};
+    ghost use Rattle.encode.specs.declared.order.Kind.TheVariants.{ColorImage};
     ghost use Rattle.encode.specs.Stream.{OrdersFrom};
 
     pub(crate) fn orders(&self) -> Orders<'_>
-        ensures { OrdersFrom self.now 0 false result }
+        ensures { OrdersFrom self.now 0 ColorImage result }
     {
         Orders {
             pixels: self,
             k: 0,
-            after: false,
+            before: Kind::ColorImage,
         }
     }
 }
@@ -41,10 +41,13 @@ impl Iterator for Orders<'_> {
         if self.pixels.total <= self.k {
             return None;
         }
-        let k = self.k;
-        let order = self.pixels.order_at(k, self.after);
+        let place = Place {
+            pixels: self.pixels,
+            k: self.k,
+        };
+        let order = place.order(self.before);
         self.k += order.pixels;
-        self.after = order.kind == Kind::BgRun;
-        Some((k, order))
+        self.before = order.kind;
+        Some((place.k, order))
     }
 }

@@ -1,5 +1,5 @@
 // A picture's pixels, in the buffer that starts with them.
-ghost use Rattle.std.specs.Prelude.{◌*◌, ◌≤◌, length};
+ghost use Rattle.std.specs.Prelude.{◌*◌, ◌<◌, ◌≤◌, length};
 
 // Bytes of a pixel, pixels of a row, and pixels of the picture.
 #[derive(Clone, Copy)]
@@ -14,15 +14,22 @@ pub(crate) struct Pixels<'a> {
     pub(crate) ghost there: { total * bytes ≤ length src.now },
 }
 
+// A pixel of the picture, by its number.
+#[derive(Clone, Copy)]
+pub(crate) struct Place<'a> {
+    pub(crate) pixels: &'a Pixels<'a>,
+    pub(crate) k: usize,
+    pub(crate) ghost inside: { k < pixels.now.total },
+}
+
 impl<'a> Pixels<'a> {
     ghost use Rattle.std.specs.Prelude.{◌≡◌, ◌+◌};
     ghost use Rattle.encode.specs.Pixels.{bytes_in};
 
-    // The bytes of n pixels from pixel k on. It takes the pixels by value, as all that a loop over pixels calls: then that loop keeps
-    // their numbers in registers, and takes 22 instructions for a pixel of noise in place of 45.
-    pub(crate) fn bytes_of(self, k: usize, n: usize) -> &'a [u8]
-        requires { k + n ≤ self.total }
-        ensures { result.now ≡ bytes_in self.entry k n }
+    // The bytes of n pixels from pixel k on. Two numbers, and not a struct with its bound: each caller would make one for one call.
+    pub(crate) fn bytes_of(&self, k: usize, n: usize) -> &'a [u8]
+        requires { k + n ≤ self.now.total }
+        ensures { result.now ≡ bytes_in self.now k n }
     {
         &self.src[k * self.bytes..(k + n) * self.bytes]
     }

@@ -6,6 +6,7 @@ use copy::copy_in;
 
 impl Pixels<'_> {
     ghost use Rattle.std.specs.Prelude.{◌≡◌, ◌++◌, ◌+◌, ◌*◌, ◌≤◌, leb, length, drop};
+    ghost use Rattle.encoding.specs.Bound.{head_size};
     ghost use Rattle.encoding.specs.Encode.{order_bytes};
     ghost use Rattle.encode.specs.Pixels.{pixels_in, stream_in};
     ghost use Rattle.encode.specs.Orders.{order_of, pixels_held};
@@ -35,15 +36,18 @@ impl Pixels<'_> {
         head + held
     }
 
+    // Bytes of an order.
+    fn order_len(&self, o: Order) -> usize
+        ensures { result ≡ head_size o.pixels + pixels_held o.kind o.pixels * self.now.bytes }
+    {
+        head_len(o.pixels) + self.bytes_held(o)
+    }
+
     // The length of the stream.
     fn stream_len(&self) -> usize
         ensures { result ≡ length (stream_in self.now) }
     {
-        let mut n = 0;
-        for (_, order) in self.orders() {
-            n += head_len(order.pixels) + self.bytes_held(order);
-        }
-        n
+        self.orders().map(|(_, order)| self.order_len(order)).sum()
     }
 
     // Whether the stream has at most so many bytes. It is measured only where the bound on the streams of all such pictures has more.
@@ -56,7 +60,7 @@ impl Pixels<'_> {
         self.stream_len() <= room
     }
 
-    // Writes the stream, which has room in dst; its length.
+    // Writes the stream, which has room in dst; its length. By a loop: what a closure of `fold` changes in dst is not known behind it.
     pub(crate) fn write_stream(&self, dst: &mut [u8]) -> usize
         requires { length (stream_in self.now) ≤ length dst.old }
         ensures { Writes (stream_in self.now) dst.old dst.new result }

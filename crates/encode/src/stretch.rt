@@ -1,13 +1,15 @@
-// Stretches of pixels, and images between them.
-use crate::bytes::{same_bytes, same_start};
-use crate::order::MAX_RUN;
-use crate::pixels::Pixels;
+// Stretches of pixels.
+ghost use Rattle.std.specs.Prelude.{◌≡◌, ◌-◌};
+ghost use Rattle.encode.specs.Pixels.{pixels_in};
+
+use crate::bytes::same_start;
+use crate::order::{Kind, MAX_RUN};
+use crate::pixels::{Pixels, Place};
 
 impl Pixels<'_> {
-    ghost use Rattle.std.specs.Prelude.{◌≡◌, false, ◌+◌, ◌-◌, ◌/◌, ◌≤◌, ◌<◌, eqb, min};
-    ghost use Rattle.base.specs.Picks.{pick};
-    ghost use Rattle.encoding.specs.Encode.{stretch, equal_at, above_at, start_at, is_none, image_at};
-    ghost use Rattle.encode.specs.Pixels.{pixels_in, same_as_back};
+    ghost use Rattle.std.specs.Prelude.{◌+◌, ◌/◌, ◌≤◌};
+    ghost use Rattle.encoding.specs.Encode.{stretch};
+    ghost use Rattle.encode.specs.Pixels.{same_as_back};
 
     // Whole pixels in n bytes. A division by a literal is no division.
     fn whole_pixels(&self, n: usize) -> usize
@@ -20,14 +22,6 @@ impl Pixels<'_> {
         }
     }
 
-    // The most pixels that an order from pixel k on may have.
-    fn most(&self, k: usize) -> usize
-        requires { k ≤ self.now.total }
-        ensures { result ≡ min 65535 (self.now.total - k) }
-    {
-        (self.total - k).min(MAX_RUN)
-    }
-
     // How many of n pixels from pixel k on are the ones `row` places back.
     fn stretch_at(&self, k: usize, row: usize, n: usize) -> usize
         requires { (row ≤ k) × (k + n ≤ self.now.total) }
@@ -35,62 +29,36 @@ impl Pixels<'_> {
     {
         self.whole_pixels(same_start(self.bytes_of(k, n), self.bytes_of(k - row, n)))
     }
+}
 
-    // Whether all n are.
-    fn is_stretch(self, k: usize, row: usize, n: usize) -> bool
-        requires { (row ≤ k) × (k + n ≤ self.total) }
-        ensures { result ≡ eqb (stretch (same_as_back (pixels_in self.entry) row) k n) n }
+impl Place<'_> {
+    ghost use Rattle.std.specs.Prelude.{min};
+    ghost use Rattle.base.specs.Picks.{pick};
+    ghost use Rattle.encoding.specs.Encode.{equal_at, above_at};
+    ghost use Rattle.encode.specs.Orders.{is_background};
+
+    // The most pixels that an order from here on may have.
+    pub(crate) fn most(self) -> usize
+        ensures { result ≡ min 65535 (self.entry.pixels.now.total - self.entry.k) }
     {
-        same_bytes(self.bytes_of(k, n), self.bytes_of(k - row, n))
+        (self.pixels.total - self.k).min(MAX_RUN)
     }
 
-    // The pixels from k on that equal pixel k: after it, each equals the one before.
-    pub(crate) fn equal_at(&self, k: usize) -> usize
-        requires { k < self.now.total }
-        ensures { result ≡ equal_at (pixels_in self.now) k }
+    // The pixels from here on that equal this one: after it, each equals the one before.
+    pub(crate) fn equal(self) -> usize
+        ensures { result ≡ equal_at (pixels_in self.entry.pixels.now) self.entry.k }
     {
-        1 + self.stretch_at(k + 1, 1, self.most(k) - 1)
+        1 + self.pixels.stretch_at(self.k + 1, 1, self.most() - 1)
     }
 
-    // The pixels from k on that equal those above; none directly after a background run.
-    pub(crate) fn above_at(&self, k: usize, after: bool) -> usize
-        requires { k < self.now.total }
-        ensures { result ≡ pick after 0 (above_at self.now.width (pixels_in self.now) k) }
+    // The pixels from here on that equal those above, after an order of this kind; none directly after a background run.
+    pub(crate) fn above(self, before: Kind) -> usize
+        ensures { result ≡ pick (is_background before) 0 (above_at self.entry.pixels.now.width (pixels_in self.entry.pixels.now) self.entry.k) }
     {
-        if after || k < self.width {
+        if before == Kind::BgRun || self.k < self.pixels.width {
             return 0;
         }
-        self.stretch_at(k, self.width, self.most(k))
-    }
-
-    // Whether no run starts at pixel k, which does not directly follow a background run.
-    fn no_run_at(self, k: usize) -> bool
-        requires { k < self.total }
-        ensures { result ≡ is_none (start_at self.entry.width (pixels_in self.entry) k false) }
-    {
-        if self.total - k < 3 {
-            return true;
-        }
-        if self.is_stretch(k + 1, 1, 2) {
-            return false;
-        }
-        if k < self.width {
-            return true;
-        }
-        !self.is_stretch(k, self.width, 3)
-    }
-
-    // The pixels of an image from pixel k on.
-    pub(crate) fn image_at(self, k: usize) -> usize
-        requires { k < self.total }
-        ensures { result ≡ image_at self.entry.width (pixels_in self.entry) k }
-    {
-        let last = self.most(k);
-        for n in 1..last {
-            if !self.no_run_at(k + n) {
-                return n;
-            }
-        }
-        last
+        self.pixels
+            .stretch_at(self.k, self.pixels.width, self.most())
     }
 }

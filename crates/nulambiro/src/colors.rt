@@ -6,9 +6,9 @@ ghost use Rattle.color.specs.SamePicture.{same_picture, picture};
 ghost use Rattle.screen.specs.Rows.{part_to_show};
 ghost use Rattle.nulambiro.specs.ColorNumbers.{expansion_numbers, index_number, yes_no, part_numbers};
 
+use crate::refusal_numbers;
 use color::Shape;
 use picture::{Numbers, RleError};
-use screen::Source;
 
 #[tactic(auto, unfolding(crate::specs::ColorNumbers::numbers_of, crate::specs::ColorNumbers::expansion_numbers))]
 pub(crate) fn expansion_numbers(expansion: Result<[u8; 3], RleError>) -> [u64; 8]
@@ -20,17 +20,8 @@ pub(crate) fn expansion_numbers(expansion: Result<[u8; 3], RleError>) -> [u64; 8
             [0, 0, 0, blue, green, red, 0, 0]
         }
         Err(e) => {
-            let n = Numbers::from(e);
-            [
-                n.refusal as u64,
-                n.first as u64,
-                n.second as u64,
-                0,
-                0,
-                0,
-                0,
-                0,
-            ]
+            let [refusal, first, second] = refusal_numbers(Numbers::from(e));
+            [refusal, first, second, 0, 0, 0, 0, 0]
         }
     }
 }
@@ -104,9 +95,5 @@ pub extern "C" fn nulambiro_row_to_show(
     ensures { report.new ≡ part_numbers (part_to_show new pixels screen bpp width height row) }
 {
     let p = screen::part_to_show(new, pixels, screen, bpp, width, height, row);
-    let slice = match p.source {
-        Source::New => 0,
-        Source::Screen => 1,
-    };
-    *report = [slice, p.start as u64, p.size as u64, 0, 0, 0, 0, 0];
+    *report = [p.source as u64, p.start as u64, p.size as u64, 0, 0, 0, 0, 0];
 }

@@ -5,6 +5,7 @@ ghost use Rattle.encoding.specs.Compress.{compressed, length_of, refusal_of, out
 ghost use Rattle.encode.specs.Promises.{refusal_in, length_in};
 ghost use Rattle.nulambiro.specs.EncoderNumbers.{numbers_of};
 
+use crate::refusal_numbers;
 use encode::CompressError;
 use picture::Numbers;
 
@@ -14,20 +15,10 @@ pub(crate) fn answer_numbers(answer: Result<usize, CompressError>) -> [u64; 8]
 {
     match answer {
         Ok(n) => [0, 0, 0, 0, n as u64, 0, 0, 0],
-        Err(CompressError::Refused(e)) => {
-            let n = Numbers::from(e);
-            [
-                0,
-                n.refusal as u64,
-                n.first as u64,
-                n.second as u64,
-                0,
-                0,
-                0,
-                0,
-            ]
+        Err(e) => {
+            let [refusal, first, second] = refusal_numbers(Numbers::from(e));
+            [0, refusal, first, second, 0, 0, 0, 0]
         }
-        Err(CompressError::OutputTooShort) => [0, 14, 0, 0, 0, 0, 0, 0],
     }
 }
 

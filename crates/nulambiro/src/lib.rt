@@ -1,7 +1,7 @@
 // The library for C: include/nulambiro.h declares these functions and says what they do.
 #![tactic(auto)]
 
-ghost use Rattle.std.specs.Prelude.{◌≡◌, length};
+ghost use Rattle.std.specs.Prelude.{◌≡◌, [], ◌∷◌, length};
 ghost use Rattle.definition.specs.Decode.{result_in, summary_of};
 ghost use Rattle.rle.specs.Report.{summary_in};
 ghost use Rattle.nulambiro.specs.Numbers.{numbers, target};
@@ -12,16 +12,25 @@ pub mod records;
 
 use picture::Numbers;
 
+// Of these, what C is told of a refusal everywhere: its number (0: none) and its two values. Functions, and no From: an array of numbers
+// is of no crate here.
+pub(crate) fn refusal_numbers(n: Numbers) -> [u64; 3]
+    ensures { result ≡ n.refusal ∷ n.first ∷ n.second ∷ [] }
+{
+    [n.refusal as u64, n.first as u64, n.second as u64]
+}
+
 // A report in numbers.
 pub(crate) fn report_numbers(report: rle::Report) -> [u64; 8]
     ensures { result ≡ numbers (summary_in report) }
 {
     let n = Numbers::from(report.outcome);
+    let [refusal, first, second] = refusal_numbers(n);
     [
         n.format as u64,
-        n.refusal as u64,
-        n.first as u64,
-        n.second as u64,
+        refusal,
+        first,
+        second,
         report.pixels as u64,
         report.orders as u64,
         0,
@@ -41,7 +50,5 @@ pub extern "C" fn nulambiro_decompress(
     ensures dst_after { dst.new ≡ target (result_in (length dst.old) src.now bpp width height) dst.old }
     ensures report_after { report.new ≡ numbers (summary_of (result_in (length dst.old) src.now bpp width height)) }
 {
-    let r = rle::decompress(src, dst, width, height, bpp);
-    let t = report_numbers(r);
-    *report = t;
+    *report = report_numbers(rle::decompress(src, dst, width, height, bpp));
 }

@@ -1,28 +1,15 @@
 // The records of a stream's orders, for C. include/nulambiro.h says what a caller needs to know.
 ghost use Rattle.std.specs.Prelude.{◌≡◌};
-ghost use Rattle.base.specs.Picks.{pick};
 ghost use Rattle.definition.specs.Records.{records, nth};
-ghost use Rattle.rle.specs.Records.{place_in, record_in};
-ghost use Rattle.nulambiro.specs.RecordNumbers.{place_number, record_numbers, answer_numbers, walk_of, walk_numbers, MovesOn};
+ghost use Rattle.rle.specs.Records.{record_in};
+ghost use Rattle.nulambiro.specs.RecordNumbers.{record_numbers, answer_numbers, walk_of, walk_numbers, MovesOn};
 
-use rle::{Found, OrderRecord, Place, Walk};
-
-pub(crate) fn place_number(p: Place) -> u64
-    ensures { result ≡ place_number (place_in p) }
-{
-    match p {
-        Place::Nowhere => 0,
-        Place::InHeader => 1,
-        Place::InByte => 2,
-        Place::InTwoBytes => 3,
-    }
-}
+use rle::{Found, OrderRecord, Walk};
 
 pub(crate) fn record_numbers(o: OrderRecord) -> [u64; 8]
     ensures { result ≡ record_numbers (record_in o) }
 {
-    let p = o.place;
-    [1, o.header as u64, place_number(p), 0, 0, 0, 0, 0]
+    [1, o.header as u64, o.place as u64, 0, 0, 0, 0, 0]
 }
 
 #[unsafe(no_mangle)]
@@ -36,13 +23,7 @@ pub extern "C" fn nulambiro_order_record(
 )
     ensures { report.new ≡ answer_numbers (nth (records src.now bpp width height) n) }
 {
-    match orders::order_record(src, width, height, bpp, n) {
-        Some(r) => {
-            let t = record_numbers(r);
-            *report = t;
-        }
-        None => *report = [0; 8],
-    }
+    *report = orders::order_record(src, width, height, bpp, n).map_or([0; 8], record_numbers);
 }
 
 // A walk from its numbers: zeros are the start of a stream.
@@ -57,20 +38,14 @@ pub(crate) fn walk_of(bytes: u64, pixels: u64, insert: u64, later_row: u64) -> W
     }
 }
 
-pub(crate) fn one_if(t: bool) -> u64
-    ensures { result ≡ pick t 1 0 }
-{
-    u64::from(t)
-}
-
 pub(crate) fn walk_numbers(w: Walk) -> [u64; 8]
     ensures { result ≡ walk_numbers w }
 {
     [
         w.pos as u64,
         w.pixels as u64,
-        one_if(w.insert),
-        one_if(!w.first_row),
+        u64::from(w.insert),
+        u64::from(!w.first_row),
         0,
         0,
         0,
@@ -92,10 +67,8 @@ pub extern "C" fn nulambiro_next_order(
     let from = walk_of(walk[0], walk[1], walk[2], walk[3]);
     match rle::nth_order(src, width, height, bpp, from, 0) {
         Some(Found { order, walk: next }) => {
-            let t = record_numbers(order);
-            let u = walk_numbers(next);
-            *walk = u;
-            *report = t;
+            *walk = walk_numbers(next);
+            *report = record_numbers(order);
         }
         None => *report = [0; 8],
     }

@@ -25,8 +25,7 @@ pub fn order_record(
 ) -> Option<OrderRecord>
     ensures { recorded_in result ≡ nth (records src.now bpp width height) n }
 {
-    let found = rle::nth_order(src, width, height, bpp, Walk::start(), n)?;
-    Some(found.order)
+    rle::nth_order(src, width, height, bpp, Walk::start(), n).map(|found| found.order)
 }
 
 // Decodes the stream, and looks at its order n: there is one exactly if more than n are completed.

@@ -19,6 +19,5 @@ pub extern "C" fn nulambiro_plain_decompress(
     ensures value { result ≡ length (result_in (length dst.old) src.now bpp width height).painted }
     ensures dst_after { dst.new ≡ bytes_of (result_in (length dst.old) src.now bpp width height).bytes (result_in (length dst.old) src.now bpp width height).painted ++ drop (result * (result_in (length dst.old) src.now bpp width height).bytes) dst.old }
 {
-    let r = rle::plain::decompress(src, dst, width, height, bpp);
-    r.pixels
+    rle::plain::decompress(src, dst, width, height, bpp).pixels
 }

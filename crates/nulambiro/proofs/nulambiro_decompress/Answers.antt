@@ -6,5 +6,5 @@ use Rattle.nulambiro.proofs.nulambiro_decompress.Goals as goal
 pub returns : goal.returns
 unfolding target
 returns c =
-    let d = c.decompress-r.ensures in
-    record { dst_after = d.target; report_after = c.report_numbers-t.ensures ∙ ap numbers d.report }
+    let d = c.decompress.ensures in
+    record { dst_after = d.target; report_after = c.report_numbers.ensures ∙ ap numbers d.report }

@@ -6,4 +6,4 @@ pub returns : goal.returns
 unfolding numbers
 returns c =
     let n = c.from-n.ensures in
-    simp (n.format, n.refusal, n.first, n.second)
+    rw (c.refusal_numbers.ensures) (simp (n.format, n.refusal, n.first, n.second))

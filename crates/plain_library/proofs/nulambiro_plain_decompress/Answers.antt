@@ -5,6 +5,6 @@ use Rattle.plain_library.proofs.nulambiro_plain_decompress.Goals as goal
 
 pub returns : goal.returns
 returns c =
-    let d = c.decompress-r.ensures in
+    let d = c.decompress.ensures in
     let pixels = ap (λ (s : Summary). s.pixels) d.report in
     record { value = pixels; dst_after = rw pixels d.target }

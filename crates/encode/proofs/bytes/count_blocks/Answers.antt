@@ -17,8 +17,5 @@ loop-i-preserved g c =
     block_agrees c.args.here.now c.args.back.now c.loop-i.i g.row.N c.requires.long h (omega (arith, start_le c.args.here.now c.args.back.now))
     (rw n at (sym c.difference.ensures ∙ c.if-difference-eq0.true))
 
-pub returns-else-difference-eq0-clause-inside : goal.returns-else-difference-eq0-clause-inside
-returns-else-difference-eq0-clause-inside g c = let h = c.loop-i.invariant in omega (arith, start_le c.args.here.now c.args.back.now)
-
 pub returns-after-loop-i-clause-inside : goal.returns-after-loop-i-clause-inside
 returns-after-loop-i-clause-inside g c = let h = c.loop-i.invariant in omega (arith, start_le c.args.here.now c.args.back.now)
