@@ -4,6 +4,7 @@ ghost use Rattle.print.specs.Writes.{Writes, Prints};
 ghost use Rattle.tile_text.specs.Answer.{format_line, painted_line};
 ghost use Rattle.tile_text.specs.Promises.{refused, format_in, refusal_in, refusal_lines, answer_lines};
 
+use crate::answer::{ANSWER_SPACE, PICTURE_LIMIT};
 use crate::refusal::Refusal;
 use picture::{Numbers, RlePixelFormat};
 use print::Output;
@@ -72,7 +73,11 @@ fn put_painted(output: &mut Output, bytes: &[u8])
 }
 
 // The painted bytes are the target's first.
-pub(crate) fn put_lines(answer: Answer, target: &[u8; 65536], out: &mut [u8; 131328]) -> usize
+pub(crate) fn put_lines(
+    answer: Answer,
+    target: &[u8; PICTURE_LIMIT],
+    out: &mut [u8; ANSWER_SPACE],
+) -> usize
     requires { answer.painted ≤ 65536 }
     ensures writes { Writes out.old 0 (answer_lines answer target.now) out.new result }
     ensures out_len { length out.old ≡ 131328 }
