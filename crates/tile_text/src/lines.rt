@@ -43,22 +43,11 @@ fn put_format(output: &mut Output, outcome: Outcome)
     }
 }
 
-// All 0 where nothing is refused.
-fn refusal_numbers(outcome: Outcome) -> Numbers
-    ensures refusal { result.refusal ≡ (refusal_in outcome).number }
-    ensures first { result.first ≡ (refusal_in outcome).first }
-    ensures second { result.second ≡ (refusal_in outcome).second }
-{
-    match outcome {
-        Ok(_) => Numbers::default(),
-        Err(e) => Numbers::from(e),
-    }
-}
-
 fn put_refusal(output: &mut Output, outcome: Outcome)
     ensures { Prints output.old (refusal_lines outcome) output.new }
 {
-    let numbers = refusal_numbers(outcome);
+    // All 0 where nothing is refused.
+    let numbers = outcome.err().map_or_else(Numbers::default, Numbers::from);
     output.number(b"refusal=", numbers.refusal);
     output.number(b"first=", numbers.first);
     output.number(b"second=", numbers.second);
