@@ -194,6 +194,8 @@ impl Parser {
 }
 
 impl Default for Parser {
+    ghost is_default = { λ p. p ≡ parse.start (replicate 8192 0) };
+
     fn default() -> Parser {
         Parser::new()
     }

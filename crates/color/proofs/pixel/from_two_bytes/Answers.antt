@@ -7,6 +7,9 @@ use Rattle.color.specs.Colors.{expand_word, word}
 use Rattle.color.proofs.Channels.{blue, green, green_small, red, uppers}
 use Rattle.color.proofs.pixel.from_two_bytes.Goals as goal
 
+pub channel_byte-requires : goal.channel_byte-requires
+channel_byte-requires c = (inl refl, omega arith)
+
 pub nonzero_rem-high : goal.nonzero_rem-high
 nonzero_rem-high c = omega (arith, (uppers c.requires).0)
 
