@@ -5,15 +5,6 @@ use Rattle.color.specs.Colors.{channel}
 use Rattle.color.proofs.Channels.{uppers}
 use Rattle.color.proofs.pixel.channel_byte.Goals as goal
 
-pub overflow_mul-result-else-n-eq32 : goal.overflow_mul-result-else-n-eq32
-overflow_mul-result-else-n-eq32 c = omega (arith, c.requires.1, (uppers c.requires.0).1)
-
-pub overflow_add-result-else-n-eq32 : goal.overflow_add-result-else-n-eq32
-overflow_add-result-else-n-eq32 c = omega (arith, c.requires.1, (uppers c.requires.0).1)
-
-pub overflow_cast-result-else-n-eq32 : goal.overflow_cast-result-else-n-eq32
-overflow_cast-result-else-n-eq32 c = omega (arith, c.requires.1, (uppers c.requires.0).1)
-
 pub returns-then-n-eq32 : goal.returns-then-n-eq32
 unfolding channel
 returns-then-n-eq32 c = simp c.if-n-eq32.true
