@@ -3,7 +3,6 @@ ghost use Rattle.std.specs.Prelude.{◌≡◌};
 ghost use Rattle.color.specs.Colors.{both};
 ghost use Rattle.color.specs.SamePicture.{same_picture, valid, picture_of};
 
-use crate::palette::palette_fits;
 use picture::{bytes_per_pixel, picture_size};
 
 // A picture's numbers: `pixels` of its pixels are painted. Its bytes stand in a slice beside it.
@@ -17,7 +16,7 @@ pub struct Shape {
 
 impl Shape {
     // Depth and sizes, space for the whole picture, the pixel count, and the palette where the depth needs one.
-    #[tactic(auto, unfolding(crate::specs::SamePicture::valid, picture::specs::Sizes::has_space))]
+    #[tactic(auto, unfolding(crate::specs::SamePicture::valid, crate::specs::Colors::palette_fits, picture::specs::Sizes::has_space))]
     fn is_valid(self, bytes: &[u8], palette: &[u8]) -> bool
         ensures { result ≡ valid palette.now (picture_of bytes.now self) }
     {
@@ -27,7 +26,7 @@ impl Shape {
         };
         size <= bytes.len()
             && self.pixels <= self.width * self.height
-            && palette_fits(self.bpp, palette)
+            && (self.bpp != 8 || 768 <= palette.len())
     }
 
     // Whether two slices hold valid pictures of this shape. Where the first does, so does a second that is not shorter.

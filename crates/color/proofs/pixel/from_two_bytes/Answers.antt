@@ -1,10 +1,8 @@
 -- `from_two_bytes` meets its contract: the bytes give the channels that the number gives. Assumes nothing.
-use mathlib.Core.Path.{refl}
-use mathlib.Core.Logic.{inl}
 use Prim.Native.Nat.{◌<◌}
 use native.Mathlib.Omega.{arith}
 use Rattle.color.specs.Colors.{expand_word, word}
-use Rattle.color.proofs.Channels.{blue, green, green_small, red, uppers}
+use Rattle.color.proofs.Channels.{blue, green, red}
 use Rattle.color.proofs.pixel.from_two_bytes.Goals as goal
 
 pub returns : goal.returns
