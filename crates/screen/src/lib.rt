@@ -22,7 +22,7 @@ pub struct Part {
 }
 
 impl Part {
-    // Where there is no row to show. It is a part like any other, of no bytes: `part_to_show` can't fail, and C takes its numbers as they are.
+    // Where there is no row to show. A part of no bytes: `part_to_show` can't fail, and C takes its numbers as they are.
     pub const EMPTY: Part = Part {
         source: Source::New,
         start: 0,
