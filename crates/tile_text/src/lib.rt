@@ -12,4 +12,4 @@ pub mod stream;
 
 pub use answer::{ANSWER_SPACE, PICTURE_LIMIT, reply, reply_to};
 pub use parser::{Line, Parser};
-pub use stream::StreamBytes;
+pub use stream::{STREAM_LIMIT, StreamBytes};

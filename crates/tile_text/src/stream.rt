@@ -3,10 +3,10 @@ ghost use Rattle.std.specs.Prelude.{◌≡◌, ◌<◌, ◌≤◌, ◌↔◌, If
 ghost use Rattle.tile_text.specs.Parse as parse;
 
 // The most bytes of a stream that are decoded.
-pub(crate) const STREAM_LIMIT: usize = 8192;
+pub const STREAM_LIMIT: usize = 8192;
 
-// The stream's bytes so far: the first 8,192, and how many there are, counted up to 8,193. The first digit of a byte waits in `high`
-// for the second.
+// The stream's bytes so far: the first 8,192, and how many there are, counted up to 8,193. That is one number and no Option, since the
+// array has no place for it: `read` learns that the bytes are too many from `get`. The first digit of a byte waits in `high` for the second.
 #[derive(Clone, Copy, Debug, PartialEq, Eq)]
 pub struct StreamBytes {
     pub bytes: [u8; STREAM_LIMIT],
