@@ -97,7 +97,7 @@ impl Parser {
     }
 
     // Another line starts.
-    fn start(&mut self, line: Line)
+    fn on_line(&mut self, line: Line)
         ensures { self.new ≡ parse.on_line line self.old }
     {
         self.line = line;
@@ -113,15 +113,15 @@ impl Parser {
         match self.line {
             Line::Width => {
                 self.width = value;
-                self.start(Line::Height);
+                self.on_line(Line::Height);
             }
             Line::Height => {
                 self.height = value;
-                self.start(Line::Bpp);
+                self.on_line(Line::Bpp);
             }
             _ => {
                 self.bpp = value;
-                self.start(Line::Stream);
+                self.on_line(Line::Stream);
             }
         }
     }
@@ -147,7 +147,7 @@ impl Parser {
         ensures told { is_some result ≡ is_some (parse.stream_step self.old b) }
     {
         match self.stream.high {
-            None if b == b'\n' => self.start(Line::Whole),
+            None if b == b'\n' => self.on_line(Line::Whole),
             _ => self.stream.digit(hex_value(b)?),
         }
         Some(())
@@ -179,7 +179,7 @@ impl Parser {
         ensures { self.new ≡ parse.step self.old b }
     {
         if self.next(b).is_none() {
-            self.start(Line::Bad);
+            self.on_line(Line::Bad);
         }
     }
 
