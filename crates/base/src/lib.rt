@@ -3,8 +3,7 @@
 
 ghost use Rattle.std.specs.Prelude.{◌≡◌, ◌<◌};
 
-// A byte as a number, with its range, which `usize::from` does not promise. It stays for callers that need the range where it is not
-// known; the crates here write `usize::from`.
+// A byte as a number, with its range, which `usize::from` does not promise.
 pub fn widen(byte: u8) -> usize
     ensures { (result ≡ byte) × (result < 256) }
 {

@@ -1,15 +1,7 @@
 // Palettes: 256 triples of blue, green and red, in the first 768 bytes.
 ghost use Rattle.std.specs.Prelude.{◌≡◌, ◌≤◌, ◌<◌, length};
-ghost use Rattle.color.specs.Colors.{entry, palette_fits};
+ghost use Rattle.color.specs.Colors.{entry};
 ghost use Rattle.color.specs.Look.{lowest_index};
-
-// Whether the palette has its entries, where the depth needs one.
-#[tactic(auto, unfolding(crate::specs::Colors::palette_fits))]
-pub(crate) fn palette_fits(bpp: usize, palette: &[u8]) -> bool
-    ensures { result ≡ palette_fits bpp palette.now }
-{
-    bpp != 8 || 768 <= palette.len()
-}
 
 pub(crate) fn entry_at(palette: &[u8], i: usize) -> [u8; 3]
     requires { (768 ≤ length palette.now) × (i < 256) }

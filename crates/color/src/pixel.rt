@@ -7,6 +7,7 @@ use crate::palette::entry_at;
 use picture::RleError;
 
 // A channel of n values as a byte. The low bits repeat the high ones, so that the largest value gives 255.
+#[tactic(auto, unfolding(crate::specs::Colors::channel))]
 pub(crate) fn channel_byte(n: usize, c: usize) -> u8
     requires { ChannelValues n × (c < n) }
     ensures { result ≡ channel n c }

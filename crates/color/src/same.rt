@@ -1,9 +1,8 @@
 // Whether two pictures are the same.
-ghost use Rattle.std.specs.Prelude.{◌≡◌, ◌≤◌, length};
+ghost use Rattle.std.specs.Prelude.{◌≡◌};
 ghost use Rattle.color.specs.Colors.{both};
-ghost use Rattle.color.specs.SamePicture.{same_bytes, same_picture, valid, picture_of};
+ghost use Rattle.color.specs.SamePicture.{same_picture, valid, picture_of};
 
-use crate::palette::palette_fits;
 use picture::{bytes_per_pixel, picture_size};
 
 // A picture's numbers: `pixels` of its pixels are painted. Its bytes stand in a slice beside it.
@@ -17,18 +16,17 @@ pub struct Shape {
 
 impl Shape {
     // Depth and sizes, space for the whole picture, the pixel count, and the palette where the depth needs one.
-    #[tactic(auto, unfolding(crate::specs::SamePicture::valid, picture::specs::Sizes::has_space))]
+    #[tactic(auto, unfolding(crate::specs::SamePicture::valid, crate::specs::Colors::palette_fits, picture::specs::Sizes::has_space))]
     fn is_valid(self, bytes: &[u8], palette: &[u8]) -> bool
         ensures { result ≡ valid palette.now (picture_of bytes.now self) }
     {
-        match picture_size(self.width, self.height, self.bpp) {
-            Ok(size) => {
-                size <= bytes.len()
-                    && self.pixels <= self.width * self.height
-                    && palette_fits(self.bpp, palette)
-            }
-            Err(_) => false,
-        }
+        // In a closure, as for `is_ok_and`, the product's bound is not known.
+        let Ok(size) = picture_size(self.width, self.height, self.bpp) else {
+            return false;
+        };
+        size <= bytes.len()
+            && self.pixels <= self.width * self.height
+            && (self.bpp != 8 || 768 <= palette.len())
     }
 
     // Whether two slices hold valid pictures of this shape. Where the first does, so does a second that is not shorter.
@@ -39,14 +37,6 @@ impl Shape {
     }
 }
 
-// Whether the first n bytes are the same.
-fn same_bytes(a: &[u8], b: &[u8], n: usize) -> bool
-    requires { (n ≤ length a.now) × (n ≤ length b.now) }
-    ensures { result ≡ same_bytes a.now b.now n }
-{
-    a[..n] == b[..n]
-}
-
 // Whether two pictures, a with the numbers p and b with q, are valid and the same. Pixels of one depth that are stored in the same bytes
 // have the same colors: no color is worked out.
 pub fn same_picture(a: &[u8], p: Shape, b: &[u8], q: Shape, palette: &[u8]) -> bool
@@ -55,5 +45,9 @@ pub fn same_picture(a: &[u8], p: Shape, b: &[u8], q: Shape, palette: &[u8]) -> b
     if p != q {
         return false;
     }
-    p.are_valid(a, b, palette) && same_bytes(a, b, p.pixels * bytes_per_pixel(p.bpp))
+    if !p.are_valid(a, b, palette) {
+        return false;
+    }
+    let painted = p.pixels * bytes_per_pixel(p.bpp);
+    a[..painted] == b[..painted]
 }

@@ -9,8 +9,9 @@ ghost use Rattle.decoder_state.specs.States.{saved_in};
 
 use picture::depth_of;
 
-// The foreground, the place in the stream, whether an insert is pending, the pixels painted, the first-row mark, the orders completed. No
-// two fields of one byte stand side by side: the compiler would pack them into one register and take them apart at every order.
+// The foreground, the place in the stream, whether an insert is pending, the pixels painted, the first-row mark, the orders completed.
+// The decoder's own state (`rle`, src/state.rt) has the same fields. It is private to its crate, and this one is a value that callers keep
+// between two calls; neither crate knows the other.
 #[derive(Clone, Copy, Debug, PartialEq, Eq)]
 pub struct State {
     pub foreground: [u8; 3],
@@ -26,6 +27,7 @@ impl State {
     pub fn start(bpp: usize) -> State
         ensures { saved_in result ≡ start_at bpp }
     {
+        // Of a closure that gives an array, as for `map_or`, the proof does not learn which it is.
         let white = match depth_of(bpp) {
             Some(depth) => depth.white,
             None => [0; 3],

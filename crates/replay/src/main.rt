@@ -152,7 +152,8 @@ fn agrees(alloc: Global, record: Record) -> Result<bool, AllocError> {
     Ok(decoded(alloc, stream, picture)? == stored && counted(stream, picture, stored.sum) == stored)
 }
 
-// All records; one that is cut off counts as differing.
+// All records; one that is cut off counts as differing. As an iterator the records would also have to say that none comes after one that
+// is cut off.
 fn replay(alloc: Global, data: &[u8]) -> Result<Tally, AllocError> {
     let mut records = Records { rest: data };
     let mut tally = Tally::default();

@@ -22,6 +22,7 @@ pub struct Part {
 }
 
 impl Part {
+    // Where there is no row to show. A part of no bytes: `part_to_show` can't fail, and C takes its numbers as they are.
     pub const EMPTY: Part = Part {
         source: Source::New,
         start: 0,
@@ -68,8 +69,8 @@ pub fn row_to_show<'a>(
     height: usize,
     r: usize,
 ) -> &'a [u8]
-    ensures result_value { result.now ≡ row_to_show new.now pixels screen.now bpp width height r }
-    ensures ref_ptr_value { result.ref_ptr ≡ place_to_show new.entry pixels screen.entry bpp width height r }
+    ensures bytes { result.now ≡ row_to_show new.now pixels screen.now bpp width height r }
+    ensures place { result.ref_ptr ≡ place_to_show new.entry pixels screen.entry bpp width height r }
 {
     let part = part_to_show(new.len(), pixels, screen.len(), bpp, width, height, r);
     let from = part.start;

@@ -3,15 +3,14 @@ use Rattle.std.specs.Prelude.{◌≡◌, List, ℕ, Option}
 use Rattle.std.specs.Io.KnownBytes.{Consumes, Appends, IsAtEnd}
 use Rattle.definition.specs.Decode.{Result}
 use Rattle.tile_text.specs.Answer.{lines_of, Answers}
-use Rattle.tile_text.specs.Parse.{fed, fed_into}
+use Rattle.tile_text.specs.Parse.{fed}
 use Rattle.tile_text.specs.declared.parser.Parser.{Parser}
 
--- from the state p, with the array `before`, the text that the reader lost leads to the state q and the array `after`
-pub record ReadFrom (old new : Option (List ℕ)) (p : Parser) (before : List ℕ) (q : Parser) (after : List ℕ) : Type 0 where
+-- from the state p the text that the reader lost leads to the state q
+pub record ReadFrom (old new : Option (List ℕ)) (p q : Parser) : Type 0 where
   pub text : List ℕ
   pub consumed : Consumes old new text
   pub parser : q ≡ fed p text
-  pub stream : after ≡ fed_into p before text
 
 -- the text that the reader had is read to its end, and the answer to it is written
 pub record Replied (input left before after : Option (List ℕ)) : Type 0 where

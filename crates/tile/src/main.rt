@@ -8,7 +8,7 @@ ghost use Rattle.tile.specs.Input.{ReadFrom, Replied};
 
 use std::io::{self, Read, Write};
 use thiserror::Error;
-use tile_text::Parser;
+use tile_text::{ANSWER_SPACE, PICTURE_LIMIT, Parser};
 
 // What stops the program before its end.
 #[derive(Clone, Copy, Debug, Error)]
@@ -20,33 +20,23 @@ enum Failure {
 }
 
 // Reads once, feeds what came, and gives how many bytes that were.
-fn read_chunk<R: Read>(
-    input: &mut R,
-    parser: &mut Parser,
-    stream: &mut [u8; 8192],
-) -> io::Result<usize>
-    ensures read { ReadFrom (R.remaining input.old) (R.remaining input.new)
-        parser.old stream.old parser.new stream.new }
+fn read_chunk<R: Read>(input: &mut R, parser: &mut Parser) -> io::Result<usize>
+    ensures read { ReadFrom (R.remaining input.old) (R.remaining input.new) parser.old parser.new }
     ensures end { IfOk result (λ n. n ≡ 0 → IsAtEnd (R.remaining input.new)) }
 {
     let mut bytes = [0u8; 4096];
     let n = input.read(&mut bytes)?;
-    parser.feed(&bytes[..n], stream);
+    parser.feed(&bytes[..n]);
     Ok(n)
 }
 
 // A proved loop has to end, and nothing says that the input does. So the loop has a number of turns that no run uses up.
-fn read_all<R: Read>(
-    input: &mut R,
-    parser: &mut Parser,
-    stream: &mut [u8; 8192],
-) -> Result<(), Failure>
-    ensures read { ReadFrom (R.remaining input.old) (R.remaining input.new)
-        parser.old stream.old parser.new stream.new }
+fn read_all<R: Read>(input: &mut R, parser: &mut Parser) -> Result<(), Failure>
+    ensures read { ReadFrom (R.remaining input.old) (R.remaining input.new) parser.old parser.new }
     ensures end { OnOk result (IsAtEnd (R.remaining input.new)) }
 {
     for _ in 0..u64::MAX {
-        let n = read_chunk(input, parser, stream).map_err(|_| Failure::Read)?;
+        let n = read_chunk(input, parser).map_err(|_| Failure::Read)?;
         if n == 0 {
             return Ok(());
         }
@@ -60,12 +50,11 @@ fn answer<R: Read, W: Write>(input: &mut R, output: &mut W) -> Result<(), Failur
         (W.contents output.old) (W.contents output.new)) }
 {
     // Fixed memory is this project's rule: arrays and no heap, whatever the text's length.
-    let mut stream = [0u8; 8192];
-    let mut target = [0u8; 65536];
-    let mut out = [0u8; 131328];
+    let mut target = [0u8; PICTURE_LIMIT];
+    let mut out = [0u8; ANSWER_SPACE];
     let mut parser = Parser::new();
-    read_all(input, &mut parser, &mut stream)?;
-    let n = tile_text::reply(parser, &stream, &mut target, &mut out);
+    read_all(input, &mut parser)?;
+    let n = tile_text::reply(&parser, &mut target, &mut out);
     output.write_all(&out[..n]).map_err(|_| Failure::Write)
 }
 

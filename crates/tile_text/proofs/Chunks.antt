@@ -1,11 +1,11 @@
--- Reading chunk by chunk is reading the whole: the state and the stream's array after one text and then another. Assumes nothing.
+-- Reading chunk by chunk is reading the whole: the state after one text and then another. Assumes nothing.
 use mathlib.Core.Path.{◌≡◌, refl, ◌∙◌, sym}
 use mathlib.Core.List.{List, [], ◌∷◌, ◌++◌}
 use Prim.Native.Nat.{ℕ, ◌+◌, ◌<◌}
 use native.Mathlib.Numerals.{add-one}
 use lib.ListN.{length, get_or, take}
 use lib.Seq.{take-suc}
-use Rattle.tile_text.specs.Parse.{step, stored, fed, fed_into}
+use Rattle.tile_text.specs.Parse.{step, fed}
 use Rattle.tile_text.specs.declared.parser.Parser.{Parser}
 
 pub fed-append : (p : Parser) (t u : List ℕ) → fed p (t ++ u) ≡ fed (fed p t) u
@@ -13,25 +13,15 @@ unfolding fed
 fed-append p [] u = refl
 fed-append p (b ∷ t) u = fed-append (step p b) t u
 
-pub into_append : (p : Parser) (xs t u : List ℕ) → fed_into p xs (t ++ u) ≡ fed_into (fed p t) (fed_into p xs t) u
-unfolding fed fed_into
-into_append p xs [] u = refl
-into_append p xs (b ∷ t) u = into_append (step p b) (stored p xs b) t u
-
 -- ---- one byte more
 
 pub fed_more : (p : Parser) (t : List ℕ) (i : ℕ) → i < length t → fed p (take (i + 1) t) ≡ step (fed p (take i t)) (get_or t i 0)
 unfolding fed
 fed_more p t i h = rw (add-one, take-suc t i 0) (fed-append p (take i t) (get_or t i 0 ∷ []))
 
-pub into_more : (p : Parser) (xs t : List ℕ) (i : ℕ) → i < length t
-    → fed_into p xs (take (i + 1) t) ≡ stored (fed p (take i t)) (fed_into p xs (take i t)) (get_or t i 0)
-unfolding fed fed_into
-into_more p xs t i h = rw (add-one, take-suc t i 0) (into_append p xs (take i t) (get_or t i 0 ∷ []))
-
 -- ---- many chunks
 
--- the text of the chunks, and the state and the array after `feed` of each
+-- the text of the chunks, and the state after `feed` of each
 unfoldable pub joined : List (List ℕ) → List ℕ
 joined [] = []
 joined (c ∷ cs) = c ++ joined cs
@@ -40,16 +30,7 @@ unfoldable pub fed_chunks : Parser → List (List ℕ) → Parser
 fed_chunks p [] = p
 fed_chunks p (c ∷ cs) = fed_chunks (fed p c) cs
 
-unfoldable pub into_chunks : Parser → List ℕ → List (List ℕ) → List ℕ
-into_chunks p xs [] = xs
-into_chunks p xs (c ∷ cs) = into_chunks (fed p c) (fed_into p xs c) cs
-
 pub chunks_fed : (p : Parser) (cs : List (List ℕ)) → fed_chunks p cs ≡ fed p (joined cs)
 unfolding fed joined fed_chunks
 chunks_fed p [] = refl
 chunks_fed p (c ∷ cs) = chunks_fed (fed p c) cs ∙ sym (fed-append p c (joined cs))
-
-pub chunks_into : (p : Parser) (xs : List ℕ) (cs : List (List ℕ)) → into_chunks p xs cs ≡ fed_into p xs (joined cs)
-unfolding fed_into joined into_chunks
-chunks_into p xs [] = refl
-chunks_into p xs (c ∷ cs) = chunks_into (fed p c) (fed_into p xs c) cs ∙ sym (into_append p xs c (joined cs))

@@ -5,10 +5,11 @@ use borrow.Author.Tests.{ne_eqb, lt-ltb}
 use Rattle.print.specs.Text.{ascii, line}
 use Rattle.print.specs.Digits.{decimal_in, decimal, hex_digit, hex_pairs}
 use Rattle.tile_text.specs.Text.{text_of, Bytes, Tile}
-use Rattle.tile_text.specs.Parse.{key_of, start, with_value, number_on, end_number, count_more, byte_read, grown, number_step, digit_of, in_key, next, step, fed}
+use Rattle.tile_text.specs.Parse.{key_of, start, with_value, number_on, end_number, no_bytes, pushed, digit_on, grown, number_step, digit_of, in_key, next, step, fed}
 use Rattle.tile_text.specs.declared.parser.Line.{Line}
 use Rattle.tile_text.specs.declared.parser.Line.TheVariants.{Height, Bpp, Stream, Whole}
 use Rattle.tile_text.specs.declared.parser.Parser.{Parser}
+use Rattle.tile_text.specs.declared.stream.StreamBytes.{StreamBytes}
 use Rattle.base.proofs.Tests.{by_less}
 use Rattle.print.proofs.Printed.{in_small, in_more, not_line_feed}
 use Rattle.tile_text.proofs.Keys.{HasNumber}
@@ -76,58 +77,69 @@ line_read key p q e n none m h =
 
 -- ---- the stream
 
--- the state at a place of a line, no digit being read
-abbrev pub at_place : Line → ℕ → ℕ → ℕ → ℕ → ℕ → Parser
-at_place l place w h b n = record { line = l; place = place; value = None; width = w; height = h; bpp = b; count = n }
+-- the state at a place of a line, no digit of a number being read
+abbrev pub at_place : Line → ℕ → ℕ → ℕ → ℕ → StreamBytes → Parser
+at_place l place w h b s = record { line = l; place = place; value = None; width = w; height = h; bpp = b; stream = s }
 
--- n bytes and then those of the stream, counted
-pub count_all : ℕ → List ℕ → ℕ
-count_all n [] = n
-count_all n (x ∷ xs) = count_all (count_more n) xs
+-- the bytes that are read, and then those of a list
+abbrev pub push_all : StreamBytes → List ℕ → StreamBytes
+push_all s [] = s
+push_all s (x ∷ xs) = push_all (pushed s x) xs
 
 stream_key_over : slice_get (key_of Stream) 7 ≡ None
 unfolding key_of ascii
 stream_key_over = refl
 
-module _ (w h b n : ℕ) where
-  first_read : (d : ℕ) → d < 16 → step (at_place Stream 7 w h b n) (hex_digit d) ≡ with_value d (at_place Stream 7 w h b n)
-  unfolding digit_of
-  first_read d small =
-      step-stream (at_place Stream 7 w h b n) (hex_digit d) stream_key_over refl ∙ rw (ne_eqb _ _ (not_line_feed d), hex_value_lem d small)
-
-  second_read : (v d : ℕ) → d < 16 → step (with_value v (at_place Stream 7 w h b n)) (hex_digit d) ≡ at_place Stream 7 w h b (count_more n)
-  unfolding digit_of byte_read
-  second_read v d small =
-      step-stream (with_value v (at_place Stream 7 w h b n)) (hex_digit d) stream_key_over refl ∙ rw (hex_value_lem d small)
-
 module _ (w h b : ℕ) where
-  pairs_read : (n : ℕ) (s : List ℕ) → Bytes s → fed (at_place Stream 7 w h b n) (hex_pairs s) ≡ at_place Stream 7 w h b (count_all n s)
-  unfolding fed hex_pairs count_all Bytes
-  pairs_read n [] g = refl
-  pairs_read n (x ∷ xs) g =
-      let high : x / 16 < 16 = omega (arith, g.0) in
-      ap (λ (p : Parser). fed (step p (hex_digit (x % 16))) (hex_pairs xs)) (first_read w h b n (x / 16) high)
-      ∙ ap (λ (p : Parser). fed p (hex_pairs xs)) (second_read w h b n (x / 16) (x % 16) (omega arith))
-      ∙ pairs_read (count_more n) xs g.1
+  first_read : (s : StreamBytes) (d : ℕ) → s.high ≡ None → d < 16
+      → step (at_place Stream 7 w h b s) (hex_digit d) ≡ at_place Stream 7 w h b (digit_on None s d)
+  unfolding digit_of
+  first_read s d none small =
+      step-stream (at_place Stream 7 w h b s) (hex_digit d) stream_key_over refl ∙ rw (none, ne_eqb _ _ (not_line_feed d), hex_value_lem d small)
 
-  stream-read : (s : List ℕ) → Bytes s → fed (at_place Stream 0 w h b 0) (line (ascii "stream=") (hex_pairs s)) ≡ at_place Whole 0 w h b (count_all 0 s)
+  second_read : (s : StreamBytes) (v d : ℕ) → d < 16
+      → step (at_place Stream 7 w h b (digit_on None s v)) (hex_digit d) ≡ at_place Stream 7 w h b (pushed s (v % 16 * 16 + d))
+  unfolding digit_of digit_on pushed
+  second_read s v d small =
+      step-stream (at_place Stream 7 w h b (digit_on None s v)) (hex_digit d) stream_key_over refl ∙ rw (hex_value_lem d small)
+
+  pairs_read : (s : StreamBytes) (xs : List ℕ) → s.high ≡ None → Bytes xs
+      → fed (at_place Stream 7 w h b s) (hex_pairs xs) ≡ at_place Stream 7 w h b (push_all s xs)
+  unfolding fed hex_pairs pushed Bytes
+  pairs_read s [] none g = refl
+  pairs_read s (x ∷ xs) none g =
+      let high : x / 16 < 16 = omega (arith, g.0) in
+      let whole : x / 16 % 16 * 16 + x % 16 ≡ x = omega (arith, g.0) in
+      ap (λ (p : Parser). fed (step p (hex_digit (x % 16))) (hex_pairs xs)) (first_read s (x / 16) none high)
+      ∙ ap (λ (p : Parser). fed p (hex_pairs xs))
+      (second_read s (x / 16) (x % 16) (omega arith) ∙ ap (λ (y : ℕ). at_place Stream 7 w h b (pushed s y)) whole)
+      ∙ pairs_read (pushed s x) xs refl g.1
+
+  none_left : (s : StreamBytes) (xs : List ℕ) → s.high ≡ None → (push_all s xs).high ≡ None
+  unfolding pushed
+  none_left s [] none = none
+  none_left s (x ∷ xs) none = none_left (pushed s x) xs refl
+
+  stream-read : (s : StreamBytes) (xs : List ℕ) → s.high ≡ None → Bytes xs
+      → fed (at_place Stream 0 w h b s) (line (ascii "stream=") (hex_pairs xs)) ≡ at_place Whole 0 w h b (push_all s xs)
   unfolding line fed step next in_key key_of digit_of ascii
-  stream-read s g =
-      let q = at_place Stream 0 w h b 0 in
-      then q (ascii "stream=" ++ hex_pairs s) (10 ∷ []) (then q (ascii "stream=") (hex_pairs s) refl (pairs_read 0 s g))
-      (step-stream (at_place Stream 7 w h b (count_all 0 s)) 10 stream_key_over refl)
+  stream-read s xs none g =
+      let q = at_place Stream 0 w h b s in
+      then q (ascii "stream=" ++ hex_pairs xs) (10 ∷ []) (then q (ascii "stream=") (hex_pairs xs) refl (pairs_read s xs none g))
+      (step-stream (at_place Stream 7 w h b (push_all s xs)) 10 stream_key_over refl ∙ rw (none_left s xs none))
 
 -- ---- the text
 
-pub text-read : (w h b : ℕ) (s : List ℕ) → Tile w h b s → fed start (text_of w h b s) ≡ at_place Whole 0 w h b (count_all 0 s)
-unfolding text_of fed step next in_key key_of number_on end_number ascii
-text-read w h b s t =
-    let width = line (ascii "width=") (decimal w) in
-    let height = line (ascii "height=") (decimal h) in
-    let depth = line (ascii "bpp=") (decimal b) in
-    then start (width ++ height ++ depth) (line (ascii "stream=") (hex_pairs s))
-    (then start (width ++ height) depth
-    (then start width height (line_read (ascii "width=") start _ refl (record { over = refl; line = tt }) refl w t.width)
-    (line_read (ascii "height=") (at_place Height 0 w 0 0 0) _ refl (record { over = refl; line = tt }) refl h t.height))
-    (line_read (ascii "bpp=") (at_place Bpp 0 w h 0 0) _ refl (record { over = refl; line = tt }) refl b t.bpp))
-    (stream-read w h b s t.bytes)
+module _ (xs : List ℕ) where
+  pub text-read : (w h b : ℕ) (s : List ℕ) → Tile w h b s → fed (start xs) (text_of w h b s) ≡ at_place Whole 0 w h b (push_all (no_bytes xs) s)
+  unfolding text_of fed step next in_key key_of number_on end_number ascii
+  text-read w h b s t =
+      let width = line (ascii "width=") (decimal w) in
+      let height = line (ascii "height=") (decimal h) in
+      let depth = line (ascii "bpp=") (decimal b) in
+      then (start xs) (width ++ height ++ depth) (line (ascii "stream=") (hex_pairs s))
+      (then (start xs) (width ++ height) depth
+      (then (start xs) width height (line_read (ascii "width=") (start xs) _ refl (record { over = refl; line = tt }) refl w t.width)
+      (line_read (ascii "height=") (at_place Height 0 w 0 0 (no_bytes xs)) _ refl (record { over = refl; line = tt }) refl h t.height))
+      (line_read (ascii "bpp=") (at_place Bpp 0 w h 0 (no_bytes xs)) _ refl (record { over = refl; line = tt }) refl b t.bpp))
+      (stream-read w h b (no_bytes xs) s refl t.bytes)

@@ -1,6 +1,6 @@
 -- From the decoder's report to the answer: each way through `decode` gives the definition's result, and the answer's lines are the
 -- definition's lines. Assumes nothing.
-use Rattle.std.proofs.Common.{◌≡◌, ℕ, ◌+◌, ◌*◌, ◌-◌, ◌<◌, ◌≤◌, List, Result as Either, Ok, Err, MatchResult, ltb, eqb, ◌++◌, length, take, append_assoc, length-append, length-drop, refl, sym, ◌∙◌, ap, arith}
+use Rattle.std.proofs.Common.{◌≡◌, ℕ, ◌+◌, ◌*◌, ◌-◌, ◌<◌, ◌≤◌, ◌↔◌, List, Option, None, IsSome, Result as Either, Ok, Err, MatchResult, ltb, eqb, ◌++◌, length, take, append_assoc, length-append, length-drop, refl, sym, ◌∙◌, ap, arith}
 use lib.Seq.{take-append_seam}
 use borrow.Author.Tests.{lt-ltb, le-ltb}
 use Rattle.base.specs.Picks.{pick}
@@ -56,33 +56,37 @@ not_whole Stream e h = refl
 not_whole Whole e h = absurd (h refl)
 not_whole Bad e h = refl
 
-module _ (p : Parser) (stream xs : List ℕ) where
-  pub answered_bad : (p.line ≡ Whole → ⊥) → Answered (reply_of p stream) xs xs (promises.refused NotATileText)
+-- where none can be read, the stream's bytes are too many
+pub too_many : {A : Type 0} (r : Option A) (n : ℕ) → IsSome r ↔ (n ≤ 8192) → r ≡ None → 8192 < n
+too_many r n limit none = by_less 8192 n (λ h. h) (λ few. let some = limit.1 few in apart cc)
+
+module _ (p : Parser) (xs : List ℕ) where
+  pub answered_bad : (p.line ≡ Whole → ⊥) → Answered (reply_of p) xs xs (promises.refused NotATileText)
   unfolding reply_of bad_tile_text
   answered_bad h = rw (not_whole p.line _ h) (nothing-painted NotATileText xs)
 
   module _ (whole : p.line ≡ Whole) where
     pub answered_refused : (e : RleError) → refused (Outcomes.refusal_of e) ≡ size_of (checked p.bpp p.width p.height)
-        → Answered (reply_of p stream) xs xs (promises.refused (Decoder e))
+        → Answered (reply_of p) xs xs (promises.refused (Decoder e))
     unfolding reply_of reply_on decoded result limited
     answered_refused e s =
-        rw (whole, ← s, refused-result (checked p.bpp p.width p.height) (Outcomes.refusal_of e) (take p.count stream) s)
+        rw (whole, ← s, refused-result (checked p.bpp p.width p.height) (Outcomes.refusal_of e) (take p.stream.count p.stream.bytes) s)
         (nothing-painted (Decoder e) xs)
 
     module _ (n : ℕ) (size : bytes n ≡ size_of (checked p.bpp p.width p.height)) where
       -- the picture is over its limit, or else the stream is
-      pub answered_large : (n ≤ 65536 → 8192 < p.count) → Answered (reply_of p stream) xs xs (promises.refused TooLarge)
+      pub answered_large : (n ≤ 65536 → 8192 < p.stream.count) → Answered (reply_of p) xs xs (promises.refused TooLarge)
       unfolding reply_of reply_on tile_too_large limited size_of checked accept decoded
       answered_large over =
           let large = nothing-painted TooLarge xs in
-          rw (whole, fit_limited _ n p.count (decoded p stream) size)
+          rw (whole, fit_limited _ n p.stream.count (decoded p) size)
           (by_less 65536 n (λ h. rw (lt-ltb _ _ h) large) (λ h. rw (le-ltb _ _ h, lt-ltb _ _ (over h)) large))
 
-      pub answered_decoded : {ys : List ℕ} {a : Answer} → n ≤ 65536 → p.count ≤ 8192 → Answered (decoded p stream) xs ys a
-          → Answered (reply_of p stream) xs ys a
+      pub answered_decoded : {ys : List ℕ} {a : Answer} → n ≤ 65536 → p.stream.count ≤ 8192 → Answered (decoded p) xs ys a
+          → Answered (reply_of p) xs ys a
       unfolding reply_of reply_on limited size_of checked accept decoded
       answered_decoded h g a =
-          rw (whole, fit_limited _ n p.count (decoded p stream) size, le-ltb _ _ h, le-ltb _ _ g) a
+          rw (whole, fit_limited _ n p.stream.count (decoded p) size, le-ltb _ _ h, le-ltb _ _ g) a
 
 -- ---- decoding
 
@@ -126,27 +130,27 @@ module _ {e : Result} {before after : List ℕ} where
   answered_error x (Err w) m k = rw m k
 
 -- a tile whose picture has `size` bytes, which the limits allow and the target has room for
-module _ (p : Parser) (stream before after : List ℕ) (r : Report) (size : ℕ)
+module _ (p : Parser) (before after : List ℕ) (r : Report) (size : ℕ)
     (fit : bytes size ≡ size_of (checked p.bpp p.width p.height)) (small : size ≤ 65536) (space : length before ≡ 65536)
     (same : length after ≡ length before) (D : ℕ) (depth : D ≡ (depth_of p.bpp).bytes)
-    (d : Decompresses (take p.count stream) p.bpp p.width p.height before after r) where
-  decodes : Agrees (take p.count stream) before after (p.width * p.height) r (decoded p stream)
+    (d : Decompresses (take p.stream.count p.stream.bytes) p.bpp p.width p.height before after r) where
+  decodes : Agrees (take p.stream.count p.stream.bytes) before after (p.width * p.height) r (decoded p)
   unfolding decoded accept
   decodes =
       let k = sized p.bpp p.width p.height size fit in
       with_space_lem _ _ _ _ before after r d (rw k.checks (omega (arith, k.size)))
 
   -- the painted bytes are D for each pixel
-  painted-bytes : length (bytes_of (decoded p stream).bytes (decoded p stream).painted) ≡ r.pixels * D
+  painted-bytes : length (bytes_of (decoded p).bytes (decoded p).painted) ≡ r.pixels * D
   unfolding decoded
   painted-bytes =
       decodes.painted
-      ∙ rw (fit_bytes p.bpp p.width p.height size (take p.count stream) fit, ← depth, ← ap (λ (x : Summary). x.pixels) decodes.report)
+      ∙ rw (fit_bytes p.bpp p.width p.height size (take p.stream.count p.stream.bytes) fit, ← depth, ← ap (λ (x : Summary). x.pixels) decodes.report)
 
   pub painted_fit : r.pixels * D ≤ 65536
   painted_fit =
       let e = decodes in
-      let q = decoded p stream in
+      let q = decoded p in
       let bs = bytes_of q.bytes q.painted in
       let l : length after ≡ length bs + (length before - length q.painted * q.bytes) =
       ap length e.target ∙ simp (length-append, length-drop)
@@ -154,7 +158,7 @@ module _ (p : Parser) (stream before after : List ℕ) (r : Report) (size : ℕ)
       omega (arith, l, painted-bytes, e.painted, space, same)
 
   pub decode_answered : (a : Answer) → a.outcome ≡ outcome_of r.outcome → a.pixels ≡ r.pixels → a.orders ≡ r.orders
-      → a.painted ≡ r.pixels * D → Answered (decoded p stream) before after a
+      → a.painted ≡ r.pixels * D → Answered (decoded p) before after a
   decode_answered a outcome pixels orders painted =
       let e = decodes in
       let same = outcome_same r.outcome in

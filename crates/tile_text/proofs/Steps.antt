@@ -1,7 +1,7 @@
--- What a byte does to the state and to the stream's array, case by case. Assumes nothing.
-use Rattle.std.proofs.Common.{◌≡◌, ℕ, ◌+◌, ◌*◌, ◌%◌, ◌<◌, ◌≤◌, List, Option, Some, None, eqb, ltb, set, slice_get, option_map, option_and_then, unwrap_or, refl, arith}
-use borrow.Author.Tests.{lt-ltb, le-ltb, ltb-true, eqb-true, eqb-false}
-use Rattle.tile_text.specs.Parse.{key_of, decimal_value, hex_value, on_line, key_read, with_value, end_number, byte_read, grown, number_step, digit_of, stream_step, after_key, in_key, next, step, byte_on, ended_byte, put, stored}
+-- What a byte does to the state, case by case. Assumes nothing.
+use Rattle.std.proofs.Common.{◌≡◌, ℕ, ◌+◌, ◌*◌, ◌<◌, Option, Some, None, eqb, ltb, slice_get, option_map, option_and_then, unwrap_or, refl, arith}
+use borrow.Author.Tests.{ltb-true, eqb-true, eqb-false}
+use Rattle.tile_text.specs.Parse.{key_of, decimal_value, hex_value, on_line, key_read, with_value, with_stream, end_number, grown, number_step, digit_on, digit_of, stream_step, after_key, in_key, next, step}
 use Rattle.tile_text.specs.declared.parser.Line.{Line}
 use Rattle.tile_text.specs.declared.parser.Line.TheVariants.{Width, Height, Bpp, Stream, Whole, Bad}
 use Rattle.tile_text.specs.declared.parser.Parser.{Parser}
@@ -64,7 +64,7 @@ module _ (p : Parser) (b : ℕ) where
     unfolding step next in_key
     step-number h = rw (over, number_after p.line h)
 
-    pub step-stream : p.line ≡ Stream → step p b ≡ unwrap_or (digit_of p.value p b) (on_line Bad p)
+    pub step-stream : p.line ≡ Stream → step p b ≡ unwrap_or (digit_of p.stream.high p b) (on_line Bad p)
     unfolding step next in_key after_key stream_step
     step-stream e = rw (over, e)
 
@@ -76,13 +76,14 @@ module _ (p : Parser) (b : ℕ) where
         (by_test (λ o. Q (unwrap_or o (on_line Bad p))) (eqb b 10) (λ t. mapped Q _ p.value _ (λ v e. f v (eqb-true _ _ t) e) h)
         (λ _. mapped Q _ _ _ (λ v e. let c = chained _ _ v e in g c.first v c.there c.second) h))
 
-    pub stream_cases : (Q : Parser → Type 0) → p.line ≡ Stream → (b ≡ 10 → p.value ≡ None → Q (on_line Whole p))
-        → ((d : ℕ) → hex_value b ≡ Some d → p.value ≡ None → Q (with_value d p))
-        → ((v d : ℕ) → hex_value b ≡ Some d → p.value ≡ Some v → Q (byte_read p)) → Q (on_line Bad p) → Q (step p b)
+    pub stream_cases : (Q : Parser → Type 0) → p.line ≡ Stream → (b ≡ 10 → p.stream.high ≡ None → Q (on_line Whole p))
+        → ((d : ℕ) → hex_value b ≡ Some d → p.stream.high ≡ None → Q (with_stream (digit_on None p.stream d) p))
+        → ((v d : ℕ) → hex_value b ≡ Some d → p.stream.high ≡ Some v → Q (with_stream (digit_on (Some v) p.stream d) p))
+        → Q (on_line Bad p) → Q (step p b)
     unfolding digit_of
-    stream_cases Q l f g h k = rw (step-stream l) (by_value p.value refl)
+    stream_cases Q l f g h k = rw (step-stream l) (by_value p.stream.high refl)
       where
-        by_value : (o : Option ℕ) → p.value ≡ o → Q (unwrap_or (digit_of o p b) (on_line Bad p))
+        by_value : (o : Option ℕ) → p.stream.high ≡ o → Q (unwrap_or (digit_of o p b) (on_line Bad p))
         by_value None e =
             by_test (λ o. Q (unwrap_or o (on_line Bad p))) (eqb b 10) (λ t. f (eqb-true _ _ t) e) (λ _. mapped Q _ _ _ (λ d i. g d i e) k)
         by_value (Some v) e = mapped Q _ _ _ (λ d i. h v d i e) k
@@ -96,48 +97,3 @@ module _ (p : Parser) (b : ℕ) where
   pub step_bad : p.line ≡ Bad → step p b ≡ on_line Bad p
   unfolding step next in_key key_of after_key
   step_bad e = rw e
-
-  -- ---- which digits end a byte
-
-  pub ends_elsewhere : HasNumber p.line → ended_byte p b ≡ None
-  unfolding ended_byte byte_on
-  ends_elsewhere h = on p.line h
-    where
-      on : (l : Line) → HasNumber l → byte_on l p.value b ≡ None
-      on Width h = refl
-      on Height h = refl
-      on Bpp h = refl
-      on Stream h = absurd h
-      on Whole h = absurd h
-      on Bad h = absurd h
-
-  pub ends-first : p.value ≡ None → ended_byte p b ≡ None
-  unfolding ended_byte byte_on
-  ends-first e = rw e (on p.line)
-    where
-      on : (l : Line) → byte_on l None b ≡ None
-      on Width = refl
-      on Height = refl
-      on Bpp = refl
-      on Stream = refl
-      on Whole = refl
-      on Bad = refl
-
-  pub ends-second : (v d : ℕ) → p.line ≡ Stream → p.value ≡ Some v → hex_value b ≡ Some d → ended_byte p b ≡ Some (v % 16 * 16 + d)
-  unfolding ended_byte byte_on
-  ends-second v d e f h = rw (e, f, h)
-
-  -- ---- the stream's array
-
-  module _ (xs : List ℕ) where
-    pub stored_in : (x : ℕ) → ended_byte p b ≡ Some x → p.count < 8192 → set xs p.count x ≡ stored p xs b
-    unfolding stored put
-    stored_in x e h = rw (e, lt-ltb _ _ h)
-
-    pub stored_past : (x : ℕ) → ended_byte p b ≡ Some x → 8192 ≤ p.count → xs ≡ stored p xs b
-    unfolding stored put
-    stored_past x e h = rw (e, le-ltb _ _ h)
-
-    pub stored_not : ended_byte p b ≡ None → xs ≡ stored p xs b
-    unfolding stored put
-    stored_not e = rw e

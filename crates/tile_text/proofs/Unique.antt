@@ -48,7 +48,7 @@ stream_unique w h b s u f g e =
 tile_unique : (w h b w' h' b' : ℕ) (s u : List ℕ) → Tile w h b s → Tile w' h' b' u → text_of w h b s ≡ text_of w' h' b' u
     → answer_of w h b s ≡ answer_of w' h' b' u
 tile_unique w h b w' h' b' s u f g e =
-    let p = sym (complete _ w h b s f refl) ∙ complete _ w' h' b' u g e in
+    let p = sym (complete _ [] w h b s f refl) ∙ complete _ [] w' h' b' u g e in
     let ew : w ≡ w' = ap (λ (q : Parser). q.width) p in
     let eh : h ≡ h' = ap (λ (q : Parser). q.height) p in
     let eb : b ≡ b' = ap (λ (q : Parser). q.bpp) p in

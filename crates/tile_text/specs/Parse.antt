@@ -7,6 +7,7 @@ use Rattle.print.specs.Text.{ascii}
 use Rattle.tile_text.specs.declared.parser.Line.{Line}
 use Rattle.tile_text.specs.declared.parser.Line.TheVariants.{Width, Height, Bpp, Stream, Whole, Bad}
 use Rattle.tile_text.specs.declared.parser.Parser.{Parser}
+use Rattle.tile_text.specs.declared.stream.StreamBytes.{StreamBytes}
 
 -- what a line begins with
 unfoldable pub key_of : Line → List ℕ
@@ -29,9 +30,13 @@ decimal_value b = digit_among b 48 57 0
 unfoldable pub hex_value : ℕ → Option ℕ
 hex_value b = pick (leb b 57) (decimal_value b) (digit_among b 97 102 10)
 
+-- nothing of a stream is read yet, with an array for its bytes
+abbrev pub no_bytes : List ℕ → StreamBytes
+no_bytes xs = record { bytes = xs; count = 0; high = None }
+
 -- nothing is read yet
-abbrev pub start : Parser
-start = record { line = Width; place = 0; value = None; width = 0; height = 0; bpp = 0; count = 0 }
+abbrev pub start : List ℕ → Parser
+start xs = record { line = Width; place = 0; value = None; width = 0; height = 0; bpp = 0; stream = no_bytes xs }
 
 -- another line starts
 abbrev pub on_line : Line → Parser → Parser
@@ -41,7 +46,7 @@ on_line l p = record p { line = l; place = 0; value = None }
 abbrev pub key_read : Parser → Parser
 key_read p = record p { place = p.place + 1 }
 
--- a digit of a number or of a byte is read, and the value so far is v
+-- a digit of a number is read, and the value so far is v
 abbrev pub with_value : ℕ → Parser → Parser
 with_value v p = record p { value = Some v }
 
@@ -69,17 +74,29 @@ number_step p b =
 unfoldable pub count_more : ℕ → ℕ
 count_more n = pick (ltb n 8193) (n + 1) n
 
--- a byte of the stream is read
-unfoldable pub byte_read : Parser → Parser
-byte_read p = record p { value = None; count = count_more p.count }
+-- the array with one byte more, where it is among the first 8,192
+unfoldable pub put : ℕ → ℕ → List ℕ → List ℕ
+put n x xs = pick (ltb n 8192) (set xs n x) xs
 
--- after the stream's key: a digit is read, the first of a byte or the second, and between two bytes a line feed ends the text
+-- a byte of the stream is read
+unfoldable pub pushed : StreamBytes → ℕ → StreamBytes
+pushed s x = record { bytes = put s.count x s.bytes; count = count_more s.count; high = None }
+
+-- a digit of the stream is read, the first of a byte or the second
+unfoldable pub digit_on : Option ℕ → StreamBytes → ℕ → StreamBytes
+digit_on None s d = record s { high = Some d }
+digit_on (Some high) s d = pushed s (high % 16 * 16 + d)
+
+abbrev pub with_stream : StreamBytes → Parser → Parser
+with_stream s p = record p { stream = s }
+
+-- after the stream's key: a digit is read, and between two bytes a line feed ends the text
 unfoldable pub digit_of : Option ℕ → Parser → ℕ → Option Parser
-digit_of None p b = pick (eqb b 10) (Some (on_line Whole p)) (option_map (λ d. with_value d p) (hex_value b))
-digit_of (Some high) p b = option_map (λ low. byte_read p) (hex_value b)
+digit_of None p b = pick (eqb b 10) (Some (on_line Whole p)) (option_map (λ d. with_stream (digit_on None p.stream d) p) (hex_value b))
+digit_of (Some high) p b = option_map (λ d. with_stream (digit_on (Some high) p.stream d) p) (hex_value b)
 
 unfoldable pub stream_step : Parser → ℕ → Option Parser
-stream_step p b = digit_of p.value p b
+stream_step p b = digit_of p.stream.high p b
 
 -- after a key
 unfoldable pub after_key : Line → Parser → ℕ → Option Parser
@@ -103,29 +120,7 @@ next p b = in_key (slice_get (key_of p.line) p.place) p b
 unfoldable pub step : Parser → ℕ → Parser
 step p b = unwrap_or (next p b) (on_line Bad p)
 
--- the byte of the stream that ends with the digit b
-unfoldable pub byte_on : Line → Option ℕ → ℕ → Option ℕ
-byte_on Stream (Some high) b = option_map (λ low. high % 16 * 16 + low) (hex_value b)
-byte_on _ _ b = None
-
-unfoldable pub ended_byte : Parser → ℕ → Option ℕ
-ended_byte p b = byte_on p.line p.value b
-
--- the array with one byte more, where there is one and it is among the first 8,192
-unfoldable pub put : Option ℕ → ℕ → List ℕ → List ℕ
-put None n xs = xs
-put (Some x) n xs = pick (ltb n 8192) (set xs n x) xs
-
--- the stream's array after the byte b
-unfoldable pub stored : Parser → List ℕ → ℕ → List ℕ
-stored p xs b = put (ended_byte p b) p.count xs
-
 -- the state after the bytes t
 unfoldable pub fed : Parser → List ℕ → Parser
 fed p [] = p
 fed p (b ∷ t) = fed (step p b) t
-
--- the stream's array after the bytes t
-unfoldable pub fed_into : Parser → List ℕ → List ℕ → List ℕ
-fed_into p xs [] = xs
-fed_into p xs (b ∷ t) = fed_into (step p b) (stored p xs b) t

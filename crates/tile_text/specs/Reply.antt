@@ -9,17 +9,17 @@ use Rattle.tile_text.specs.declared.parser.Line.{Line}
 use Rattle.tile_text.specs.declared.parser.Line.TheVariants.{Whole}
 use Rattle.tile_text.specs.declared.parser.Parser.{Parser}
 
--- the decoder's answer to the numbers and the stream that a parser has, with the stream's first bytes in an array
-unfoldable pub decoded : Parser → List ℕ → Result
-decoded p stream = result (take p.count stream) p.bpp p.width p.height
+-- the decoder's answer to the numbers and the stream that a parser has
+unfoldable pub decoded : Parser → Result
+decoded p = result (take p.stream.count p.stream.bytes) p.bpp p.width p.height
 
 -- a parser that hasn't read a whole text is refused with 9
 unfoldable pub reply_on : Line → Result → Result
 reply_on Whole e = e
 reply_on _ e = bad_tile_text
 
-unfoldable pub reply_of : Parser → List ℕ → Result
-reply_of p stream = reply_on p.line (limited (size_of (checked p.bpp p.width p.height)) p.count (decoded p stream))
+unfoldable pub reply_of : Parser → Result
+reply_of p = reply_on p.line (limited (size_of (checked p.bpp p.width p.height)) p.stream.count (decoded p))
 
 -- `written` bytes from the first on are the answer's lines, and the rest of the array is kept; the target holds the painted bytes, and
 -- then what it held

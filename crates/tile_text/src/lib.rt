@@ -8,6 +8,8 @@ pub mod answer;
 pub(crate) mod lines;
 pub mod parser;
 pub(crate) mod refusal;
+pub mod stream;
 
-pub use answer::{reply, reply_to};
+pub use answer::{ANSWER_SPACE, PICTURE_LIMIT, reply, reply_to};
 pub use parser::{Line, Parser};
+pub use stream::{STREAM_LIMIT, StreamBytes};

@@ -4,6 +4,7 @@ ghost use Rattle.print.specs.Writes.{Writes, Prints};
 ghost use Rattle.tile_text.specs.Answer.{format_line, painted_line};
 ghost use Rattle.tile_text.specs.Promises.{refused, format_in, refusal_in, refusal_lines, answer_lines};
 
+use crate::answer::{ANSWER_SPACE, PICTURE_LIMIT};
 use crate::refusal::Refusal;
 use picture::{Numbers, RlePixelFormat};
 use print::Output;
@@ -42,22 +43,11 @@ fn put_format(output: &mut Output, outcome: Outcome)
     }
 }
 
-// All 0 where nothing is refused.
-fn refusal_numbers(outcome: Outcome) -> Numbers
-    ensures refusal { result.refusal ≡ (refusal_in outcome).number }
-    ensures first { result.first ≡ (refusal_in outcome).first }
-    ensures second { result.second ≡ (refusal_in outcome).second }
-{
-    match outcome {
-        Ok(_) => Numbers::default(),
-        Err(e) => Numbers::from(e),
-    }
-}
-
 fn put_refusal(output: &mut Output, outcome: Outcome)
     ensures { Prints output.old (refusal_lines outcome) output.new }
 {
-    let numbers = refusal_numbers(outcome);
+    // All 0 where nothing is refused.
+    let numbers = outcome.err().map_or_else(Numbers::default, Numbers::from);
     output.number(b"refusal=", numbers.refusal);
     output.number(b"first=", numbers.first);
     output.number(b"second=", numbers.second);
@@ -72,7 +62,11 @@ fn put_painted(output: &mut Output, bytes: &[u8])
 }
 
 // The painted bytes are the target's first.
-pub(crate) fn put_lines(answer: Answer, target: &[u8; 65536], out: &mut [u8; 131328]) -> usize
+pub(crate) fn put_lines(
+    answer: Answer,
+    target: &[u8; PICTURE_LIMIT],
+    out: &mut [u8; ANSWER_SPACE],
+) -> usize
     requires { answer.painted ≤ 65536 }
     ensures writes { Writes out.old 0 (answer_lines answer target.now) out.new result }
     ensures out_len { length out.old ≡ 131328 }

@@ -1,9 +1,8 @@
 // A tile text, read one byte at a time in bounded memory.
-ghost use Rattle.std.specs.Prelude.{◌≡◌, ◌<◌, IfSome};
+ghost use Rattle.std.specs.Prelude.{◌≡◌, ◌<◌, IfSome, is_some, unwrap_or, replicate};
 ghost use Rattle.tile_text.specs.Parse as parse;
 
-// The most bytes of a stream that are decoded.
-pub(crate) const STREAM_LIMIT: usize = 8192;
+use crate::stream::StreamBytes;
 
 // The line being read; or the text is read whole, or it is no tile text.
 #[derive(Clone, Copy, Debug, Default, PartialEq, Eq)]
@@ -33,9 +32,9 @@ impl Line {
     }
 }
 
-// The line, and the place in its key; after the key the value of the digits that are read. Then the numbers of the lines that are
-// read, and the stream's bytes so far, counted up to 8,193.
-#[derive(Clone, Copy, Debug, Default, PartialEq, Eq)]
+// The line, and the place in its key; after a number's key the value of the digits that are read. Then the numbers of the lines that
+// are read, and the stream's bytes.
+#[derive(Clone, Copy, Debug, PartialEq, Eq)]
 pub struct Parser {
     pub line: Line,
     pub place: usize,
@@ -43,7 +42,7 @@ pub struct Parser {
     pub width: usize,
     pub height: usize,
     pub bpp: usize,
-    pub count: usize,
+    pub stream: StreamBytes,
 }
 
 // The value of a decimal digit.
@@ -84,101 +83,88 @@ fn grown(value: Option<usize>, d: u8) -> Option<usize>
 impl Parser {
     // Nothing is read yet.
     pub fn new() -> Parser
-        ensures { result ≡ parse.start }
+        ensures { result ≡ parse.start (replicate 8192 0) }
     {
-        Parser::default()
+        Parser {
+            line: Line::Width,
+            place: 0,
+            value: None,
+            width: 0,
+            height: 0,
+            bpp: 0,
+            stream: StreamBytes::new(),
+        }
     }
 
     // Another line starts.
-    fn on_line(self, line: Line) -> Parser
-        ensures { result ≡ parse.on_line line self }
+    fn on_line(&mut self, line: Line)
+        ensures { self.new ≡ parse.on_line line self.old }
     {
-        Parser {
-            line,
-            place: 0,
-            value: None,
-            ..self
-        }
+        self.line = line;
+        self.place = 0;
+        self.value = None;
     }
 
     // The line of a number ends; its value is the width, the height or the depth, by the line.
     #[tactic(auto, unfolding(crate::specs::Parse::end_number, crate::specs::Parse::number_on))]
-    fn end_number(self, value: usize) -> Parser
-        ensures { result ≡ parse.end_number self value }
+    fn end_number(&mut self, value: usize)
+        ensures { self.new ≡ parse.end_number self.old value }
     {
         match self.line {
-            Line::Width => Parser {
-                width: value,
-                ..self.on_line(Line::Height)
-            },
-            Line::Height => Parser {
-                height: value,
-                ..self.on_line(Line::Bpp)
-            },
-            _ => Parser {
-                bpp: value,
-                ..self.on_line(Line::Stream)
-            },
+            Line::Width => {
+                self.width = value;
+                self.on_line(Line::Height);
+            }
+            Line::Height => {
+                self.height = value;
+                self.on_line(Line::Bpp);
+            }
+            _ => {
+                self.bpp = value;
+                self.on_line(Line::Stream);
+            }
         }
     }
 
     // After a number's key.
     #[tactic(auto, unfolding(crate::specs::Parse::number_step))]
-    fn number_step(self, b: u8) -> Option<Parser>
-        ensures { result ≡ parse.number_step self b }
+    fn number_step(&mut self, b: u8) -> Option<()>
+        ensures state { self.new ≡ unwrap_or (parse.number_step self.old b) self.old }
+        ensures told { is_some result ≡ is_some (parse.number_step self.old b) }
     {
         if b == b'\n' {
-            return Some(self.end_number(self.value?));
-        }
-        let value = grown(self.value, decimal_value(b)?)?;
-        Some(Parser {
-            value: Some(value),
-            ..self
-        })
-    }
-
-    // A byte of the stream is read. Past 8,192 the count only has to say so: it stays at 8,193, and a text of any length can't wrap it.
-    #[tactic(auto, unfolding(crate::specs::Parse::byte_read, crate::specs::Parse::count_more))]
-    fn byte_read(self) -> Parser
-        ensures { result ≡ parse.byte_read self }
-    {
-        let count = if self.count <= STREAM_LIMIT {
-            self.count + 1
+            self.end_number(self.value?);
         } else {
-            self.count
-        };
-        Parser {
-            value: None,
-            count,
-            ..self
+            self.value = Some(grown(self.value, decimal_value(b)?)?);
         }
+        Some(())
     }
 
     // After the stream's key.
     #[tactic(auto, unfolding(crate::specs::Parse::stream_step, crate::specs::Parse::digit_of))]
-    fn stream_step(self, b: u8) -> Option<Parser>
-        ensures { result ≡ parse.stream_step self b }
+    fn stream_step(&mut self, b: u8) -> Option<()>
+        ensures state { self.new ≡ unwrap_or (parse.stream_step self.old b) self.old }
+        ensures told { is_some result ≡ is_some (parse.stream_step self.old b) }
     {
-        match self.value {
-            None if b == b'\n' => Some(self.on_line(Line::Whole)),
-            None => Some(Parser {
-                value: Some(usize::from(hex_value(b)?)),
-                ..self
-            }),
-            Some(_) => hex_value(b).map(|_| self.byte_read()),
+        match self.stream.high {
+            None if b == b'\n' => self.on_line(Line::Whole),
+            _ => self.stream.digit(hex_value(b)?),
         }
+        Some(())
     }
 
-    // The state after the byte b; none where no tile text has it there.
+    // Reads the byte b; none where no tile text has it there, and nothing changes.
     #[tactic(auto, unfolding(crate::specs::Parse::next, crate::specs::Parse::in_key, crate::specs::Parse::after_key))]
-    fn next(self, b: u8) -> Option<Parser>
-        ensures { result ≡ parse.next self b }
+    fn next(&mut self, b: u8) -> Option<()>
+        ensures state { self.new ≡ unwrap_or (parse.next self.old b) self.old }
+        ensures told { is_some result ≡ is_some (parse.next self.old b) }
     {
         if let Some(&key) = self.line.key().get(self.place) {
-            return (b == key).then_some(Parser {
-                place: self.place + 1,
-                ..self
-            });
+            if b != key {
+                return None;
+            }
+            self.place += 1;
+            return Some(());
         }
         match self.line {
             Line::Width | Line::Height | Line::Bpp => self.number_step(b),
@@ -189,43 +175,28 @@ impl Parser {
 
     // No byte leads away from `Bad`, so one departure anywhere refuses the whole text.
     #[tactic(auto, unfolding(crate::specs::Parse::step))]
-    fn step(self, b: u8) -> Parser
-        ensures { result ≡ parse.step self b }
+    fn step(&mut self, b: u8)
+        ensures { self.new ≡ parse.step self.old b }
     {
-        self.next(b).unwrap_or(self.on_line(Line::Bad))
-    }
-
-    // The byte of the stream that ends with the digit b, where there is one.
-    #[tactic(auto, unfolding(crate::specs::Parse::ended_byte, crate::specs::Parse::byte_on))]
-    fn ended_byte(self, b: u8) -> Option<u8>
-        ensures { result ≡ parse.ended_byte self b }
-    {
-        match (self.line, self.value) {
-            (Line::Stream, Some(high)) => Some((high % 16) as u8 * 16 + hex_value(b)?),
-            _ => None,
+        if self.next(b).is_none() {
+            self.on_line(Line::Bad);
         }
     }
 
-    // Stores the byte of the stream that ends with the digit b, where there is one and it has a place.
-    #[tactic(auto, unfolding(crate::specs::Parse::stored, crate::specs::Parse::put))]
-    fn store(self, b: u8, stream: &mut [u8; 8192])
-        ensures { stream.new ≡ parse.stored self stream.old b }
-    {
-        if let Some(byte) = self.ended_byte(b)
-            && self.count < STREAM_LIMIT
-        {
-            stream[self.count] = byte;
-        }
-    }
-
-    // Reads the bytes of `chunk`, and stores the stream's bytes among them in `stream`.
-    pub fn feed(&mut self, chunk: &[u8], stream: &mut [u8; 8192])
-        ensures state { self.new ≡ parse.fed self.old chunk.now }
-        ensures stream { stream.new ≡ parse.fed_into self.old stream.old chunk.now }
+    // Reads the bytes of `chunk`.
+    pub fn feed(&mut self, chunk: &[u8])
+        ensures { self.new ≡ parse.fed self.old chunk.now }
     {
         for &b in chunk {
-            self.store(b, stream);
-            *self = self.step(b);
+            self.step(b);
         }
+    }
+}
+
+impl Default for Parser {
+    ghost is_default = { λ p. p ≡ parse.start (replicate 8192 0) };
+
+    fn default() -> Parser {
+        Parser::new()
     }
 }

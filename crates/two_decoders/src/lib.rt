@@ -3,12 +3,7 @@
 
 ghost use Rattle.rle.specs.Guarantees.{SameDecoding};
 
-#[derive(Clone, Copy)]
-pub struct Reports {
-    pub fast: rle::Report,
-    pub plain: rle::Report,
-}
-
+// The report of the fast decoder, then that of the plain one.
 pub fn decompress_both(
     src: &[u8],
     a: &mut [u8],
@@ -16,10 +11,10 @@ pub fn decompress_both(
     width: usize,
     height: usize,
     bpp: usize,
-) -> Reports
-    ensures { SameDecoding src.now bpp width height a.old a.new result.fast b.old b.new result.plain }
+) -> (rle::Report, rle::Report)
+    ensures { SameDecoding src.now bpp width height a.old a.new result.0 b.old b.new result.1 }
 {
     let fast = rle::decompress(src, a, width, height, bpp);
     let plain = rle::plain::decompress(src, b, width, height, bpp);
-    Reports { fast, plain }
+    (fast, plain)
 }

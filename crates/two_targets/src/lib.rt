@@ -4,12 +4,7 @@
 ghost use Rattle.rle.specs.Report.{Decompresses};
 ghost use Rattle.rle.specs.Guarantees.{HasSpace, NoOldByte};
 
-#[derive(Clone, Copy)]
-pub struct Reports {
-    pub first: rle::Report,
-    pub second: rle::Report,
-}
-
+// The reports are in the order of the targets.
 pub fn decompress_twice(
     src: &[u8],
     first: &mut [u8],
@@ -17,15 +12,12 @@ pub fn decompress_twice(
     width: usize,
     height: usize,
     bpp: usize,
-) -> Reports
-    ensures decompresses { Decompresses src.now bpp width height first.old first.new result.first }
-    ensures decompresses_2 { Decompresses src.now bpp width height second.old second.new result.second }
-    ensures no_old_byte { HasSpace first.old bpp width height → HasSpace second.old bpp width height → NoOldByte src.now bpp width height first.old first.new result.first second.old second.new result.second }
+) -> (rle::Report, rle::Report)
+    ensures first { Decompresses src.now bpp width height first.old first.new result.0 }
+    ensures second { Decompresses src.now bpp width height second.old second.new result.1 }
+    ensures no_old_byte { HasSpace first.old bpp width height → HasSpace second.old bpp width height → NoOldByte src.now bpp width height first.old first.new result.0 second.old second.new result.1 }
 {
     let a = rle::decompress(src, first, width, height, bpp);
     let b = rle::decompress(src, second, width, height, bpp);
-    Reports {
-        first: a,
-        second: b,
-    }
+    (a, b)
 }

@@ -19,13 +19,13 @@ slice_bounds-result-end-in-Screen c = omega (arith, (part_inside _ _ _ _ _ _ _ _
 pub returns-in-New : goal.returns-in-New
 unfolding row_to_show part_bytes
 returns-in-New c = record {
-  result_value = rw (← c.part_to_show-part.ensures) (simp c.in-New.is (rw add-sub_cancel_left));
-  ref_ptr_value = part_place_lem _ _ c.part_to_show-part.ensures false (ap on_screen c.in-New.is);
+  bytes = rw (← c.part_to_show-part.ensures) (simp c.in-New.is (rw add-sub_cancel_left));
+  place = part_place_lem _ _ c.part_to_show-part.ensures false (ap on_screen c.in-New.is);
 }
 
 pub returns-in-Screen : goal.returns-in-Screen
 unfolding row_to_show part_bytes
 returns-in-Screen c = record {
-  result_value = rw (← c.part_to_show-part.ensures) (simp c.in-Screen.is (rw add-sub_cancel_left));
-  ref_ptr_value = part_place_lem _ _ c.part_to_show-part.ensures true (ap on_screen c.in-Screen.is);
+  bytes = rw (← c.part_to_show-part.ensures) (simp c.in-Screen.is (rw add-sub_cancel_left));
+  place = part_place_lem _ _ c.part_to_show-part.ensures true (ap on_screen c.in-Screen.is);
 }

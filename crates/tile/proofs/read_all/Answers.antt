@@ -4,7 +4,7 @@ use Rattle.tile.proofs.Reading.{read_none, read_more}
 use Rattle.tile.proofs.read_all.Goals as goal
 
 pub loop-init : goal.loop-init
-loop-init g c = read_none _ _ (Keeps-refl _)
+loop-init g c = read_none _ (Keeps-refl _)
 
 pub returns-in_err-n-clause-read : goal.returns-in_err-n-clause-read
 returns-in_err-n-clause-read g c = read_more c.loop.invariant c.read_chunk.ensures.read

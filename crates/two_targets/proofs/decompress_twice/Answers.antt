@@ -7,4 +7,4 @@ returns c =
     let a = c.args in
     let d = c.decompress-a.ensures in
     let e = c.decompress-b.ensures in
-    record { decompresses = d; decompresses_2 = e; no_old_byte = λ s t. no_old_byte a.src.now a.bpp a.width a.height _ _ _ _ _ _ d e s t }
+    record { first = d; second = e; no_old_byte = λ s t. no_old_byte a.src.now a.bpp a.width a.height _ _ _ _ _ _ d e s t }

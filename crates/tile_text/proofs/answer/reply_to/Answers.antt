@@ -5,4 +5,4 @@ use Rattle.tile_text.proofs.Inverse.{replied_to}
 use Rattle.tile_text.proofs.answer.reply_to.Goals as goal
 
 pub returns : goal.returns
-returns c = replied_to _ _ _ _ _ c.new-p.ensures c.feed.ensures.state c.feed.ensures.stream (length-replicate {A = ℕ} 8192 0) c.reply.ensures
+returns c = replied_to _ _ _ _ c.new-p.ensures c.feed.ensures (length-replicate {A = ℕ} 8192 0) c.reply.ensures
