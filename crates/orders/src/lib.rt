@@ -38,7 +38,7 @@ pub fn decode_and_look(
     n: usize,
 ) -> Decoded
     ensures decompresses { Decompresses src.now bpp width height dst.old dst.new result.report }
-    ensures recorded_value { recorded_in result.recorded ≡ nth (records src.now bpp width height) n }
+    ensures recorded { recorded_in result.recorded ≡ nth (records src.now bpp width height) n }
     ensures counts_orders { HasSpace dst.old bpp width height → CountsOrders src.now bpp width height n result.report result.recorded }
 {
     let report = rle::decompress(src, dst, width, height, bpp);

@@ -7,4 +7,4 @@ returns c =
     let a = c.args in
     let d = c.decompress-report.ensures in
     let e = c.order_record-recorded.ensures in
-    record { decompresses = d; recorded_value = e; counts_orders = λ space. counts-orders a.src.now a.bpp a.width a.height a.n _ _ _ _ d space e }
+    record { decompresses = d; recorded = e; counts_orders = λ space. counts-orders a.src.now a.bpp a.width a.height a.n _ _ _ _ d space e }
