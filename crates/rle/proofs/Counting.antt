@@ -7,7 +7,7 @@ use native.Mathlib.Omega.{arith}
 use Rattle.std.specs.Prelude.{Some, None, Ok, Err}
 use Rattle.picture.specs.declared.outcome.RleError.{RleError}
 use Rattle.rle.specs.declared.report.Report.{Report}
-use Rattle.rle.specs.declared.state.Frame.{Frame as CodeFrame}
+use Rattle.rle.specs.declared.frame.Frame.{Frame as CodeFrame}
 use Rattle.rle.specs.declared.walk.Walk.{Walk}
 use Rattle.rle.specs.declared.walk.Walked.{Walked}
 use Rattle.picture.specs.Sizes.{Frame, checked, accepted, refused}

@@ -13,7 +13,7 @@ use Rattle.definition.specs.Decode.{State, state, start}
 use Rattle.definition.specs.Records.{orders_from, nth}
 use Rattle.definition.proofs.Bounds.{Bytes, bytes_drop}
 use Rattle.definition.proofs.Records.{orders_without_room}
-use Rattle.rle.specs.declared.state.Frame.{Frame as CodeFrame}
+use Rattle.rle.specs.declared.frame.Frame.{Frame as CodeFrame}
 use Rattle.rle.specs.declared.walk.Walk.{Walk}
 use Rattle.rle.specs.declared.walk.Walked.{Walked}
 use Rattle.rle.specs.States.{frame_of}

@@ -13,7 +13,7 @@ use lib.Dec.{leb}
 use lib.ListN.{length, drop}
 use lib.Seq.{drop-drop}
 use Rattle.rle.specs.declared.state.State.{State as CodeState}
-use Rattle.rle.specs.declared.state.Frame.{Frame as CodeFrame}
+use Rattle.rle.specs.declared.frame.Frame.{Frame as CodeFrame}
 use Rattle.rle.specs.declared.state.Stepped.{Stepped}
 use Rattle.rle.specs.declared.paint.Mode.TheVariants.{AboveXor}
 use Rattle.rle.specs.declared.paint.Ink.{Ink as CodeInk}

@@ -15,7 +15,7 @@ use Rattle.std.specs.Prelude.{Some, None, Ok, Err}
 use Rattle.rle.specs.declared.head.NoLength.{NoLength}
 use Rattle.rle.specs.declared.plan.Plan.{Plan as CodePlan}
 use Rattle.rle.specs.declared.record.OrderRecord.{OrderRecord}
-use Rattle.rle.specs.declared.state.Frame.{Frame as CodeFrame}
+use Rattle.rle.specs.declared.frame.Frame.{Frame as CodeFrame}
 use Rattle.rle.specs.declared.walk.Walk.{Walk}
 use Rattle.picture.specs.declared.outcome.RleError.{RleError}
 use Rattle.picture.specs.Sizes.{Frame}

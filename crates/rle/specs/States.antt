@@ -12,7 +12,7 @@ use Rattle.rle.specs.declared.paint.Mode.TheVariants.{Solid, Above, AboveXor}
 use Rattle.rle.specs.declared.paint.Ink.{Ink as CodeInk}
 use Rattle.picture.specs.declared.outcome.RleError.{RleError}
 use Rattle.rle.specs.declared.plan.Plan.{Plan as CodePlan}
-use Rattle.rle.specs.declared.state.Frame.{Frame as CodeFrame}
+use Rattle.rle.specs.declared.frame.Frame.{Frame as CodeFrame}
 use Rattle.rle.specs.declared.state.State.{State as CodeState}
 use Rattle.rle.specs.declared.state.Stepped.{Stepped}
 use Rattle.rle.specs.Planning.{ending_in}

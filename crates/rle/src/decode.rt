@@ -1,20 +1,21 @@
 // The whole stream: the loop over its orders, and a call of a decoder.
-ghost use Rattle.std.specs.Prelude.{◌≡◌, true, ◌≤◌, length};
-ghost use Rattle.rle.specs.States.{frame_of, Framed};
+ghost use Rattle.std.specs.Prelude.{◌≡◌, true, ◌*◌, ◌≤◌, length};
+ghost use Rattle.rle.specs.States.{frame_of};
 ghost use Rattle.rle.specs.Orders.{BetweenOrders, Decodes, DecodesTo};
 ghost use Rattle.rle.specs.Report.{Decompresses};
 
+use crate::frame::Frame;
 use crate::head::read_head;
 use crate::header::Headers;
 use crate::order::order;
 use crate::report::Report;
-use crate::state::{Frame, State, Stepped};
+use crate::state::{State, Stepped};
 use picture::RleError;
 
 // A way to carry out all orders of a stream.
 pub(crate) trait Decoder {
     fn decode(src: &[u8], dst: &mut [u8], f: Frame) -> Stepped
-        requires { Framed (length dst.old) (frame_of f) }
+        requires { f.total * f.depth.bytes ≤ length dst.old }
         ensures { Decodes (frame_of f) src.now dst.old dst.new result };
 }
 
@@ -51,7 +52,7 @@ pub(crate) fn orders_to(
     s: State,
     limit: usize,
 ) -> Stepped
-    requires framed { Framed (length dst.old) (frame_of f) }
+    requires fits { f.total * f.depth.bytes ≤ length dst.old }
     requires between_orders { BetweenOrders (frame_of f) src.now dst.old dst.old s }
     requires limit_le_width { s.first_row ≡ true → limit ≤ f.width }
     ensures { DecodesTo limit (frame_of f) src.now dst.old dst.new s result }
@@ -84,7 +85,7 @@ impl Decoder for Fast {
 
 // All orders of the stream.
 pub(crate) fn decompress_impl(src: &[u8], dst: &mut [u8], f: Frame) -> Stepped
-    requires { Framed (length dst.old) (frame_of f) }
+    requires { f.total * f.depth.bytes ≤ length dst.old }
     ensures { Decodes (frame_of f) src.now dst.old dst.new result }
 {
     let headers = Headers::new();

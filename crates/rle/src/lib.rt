@@ -10,6 +10,7 @@ ghost use Rattle.rle.specs.Report.{summary_in, Decompresses};
 ghost use Rattle.rle.specs.Walks.{FindsOrder};
 
 pub(crate) mod decode;
+pub(crate) mod frame;
 pub(crate) mod head;
 pub(crate) mod header;
 pub(crate) mod image;
@@ -26,10 +27,10 @@ pub(crate) mod state;
 pub mod walk;
 
 use decode::{Fast, decompress_by};
+use frame::Frame;
 pub use kind::Kind;
 pub use record::{OrderRecord, Place};
 pub use report::Report;
-use state::Frame;
 use walk::walk_orders;
 pub use walk::{Found, Walk};
 

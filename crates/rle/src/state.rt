@@ -1,21 +1,13 @@
-// The decoder's frame and state, and what its orders paint with.
-ghost use Rattle.std.specs.Prelude.{◌≡◌, ◌-◌, ◌≤◌, length, drop};
-ghost use Rattle.picture.specs.Sizes.{checked};
+// The decoder's state, and what its orders paint with.
+ghost use Rattle.std.specs.Prelude.{◌≡◌, ◌≤◌, length, drop};
 ghost use Rattle.definition.specs.Plan as plan;
-ghost use Rattle.rle.specs.States.{checked_in, row_ink, fg_of, bg_of, with_fg, start_of, at_pos, completed_in, refused_in, first_row_ended, Fits, finished_of};
+ghost use Rattle.rle.specs.States.{row_ink, fg_of, bg_of, with_fg, start_of, at_pos, completed_in, refused_in, first_row_ended, Fits, finished_of};
 
+pub(crate) use crate::frame::Frame;
 use crate::paint::{Ink, Mode, solid};
 use crate::pixel::read_pixel;
-use crate::plan::{Plan, Room};
-use picture::{Depth, RleError, depth_of, picture_size};
-
-// What a picture's orders go by: its depth, its width, and its pixels.
-#[derive(Clone, Copy)]
-pub(crate) struct Frame {
-    pub(crate) depth: Depth,
-    pub(crate) width: usize,
-    pub(crate) total: usize,
-}
+use crate::plan::Plan;
+use picture::RleError;
 
 // Where decoding stands between orders: the foreground, the place in the stream, whether an insert is pending, the pixels painted,
 // the first-row mark, the orders completed. No two fields of one byte stand side by side: the compiler would pack them into one
@@ -35,32 +27,6 @@ pub(crate) struct State {
 pub(crate) struct Stepped {
     pub(crate) ending: Result<(), RleError>,
     pub(crate) state: State,
-}
-
-impl Frame {
-    // The frame of a picture, or the refusal of its depth or its sizes.
-    pub(crate) fn new(width: usize, height: usize, bpp: usize) -> Result<Self, RleError>
-        ensures { checked_in result ≡ checked bpp width height }
-    {
-        let depth = depth_of(bpp).ok_or(RleError::InvalidBpp { bpp })?;
-        picture_size(width, height, bpp)?;
-        Ok(Frame {
-            depth,
-            width,
-            total: width * height,
-        })
-    }
-
-    // What the picture has left behind so many pixels.
-    pub(crate) fn room(self, pixels: usize) -> Room
-        requires { (self.depth.bytes ≤ 3) × (self.total ≤ 67108864) × (pixels ≤ self.total) }
-        ensures { (result.bytes ≡ self.depth.bytes) × (result.pixels ≡ self.total - pixels) }
-    {
-        Room {
-            bytes: self.depth.bytes,
-            pixels: self.total - pixels,
-        }
-    }
 }
 
 impl State {

@@ -6,10 +6,10 @@ ghost use Rattle.rle.specs.States.{frame_of};
 ghost use Rattle.rle.specs.Walks.{start_walk};
 ghost use Rattle.rle.specs.Walking.{WalksOrders, stopped_at, found_by, ending_by};
 
+use crate::frame::Frame;
 use crate::head::read_head;
 use crate::header::Headers;
 use crate::record::{OrderRecord, record_at};
-use crate::state::Frame;
 use picture::RleError;
 
 // Where a walk stands between two orders: the place in the stream, the pixels painted, whether an insert is pending, the first-row
@@ -112,7 +112,7 @@ pub(crate) fn insert_kept(insert: bool, first: bool, k: usize, w: usize) -> bool
 // Orders from `from` on until number n of them, counted from 0, is completed, or to the stream's end or its refusal. The walk's fields
 // are stored one by one: a copy of a whole state goes through memory, with what lies between its fields.
 pub(crate) fn walk_orders(src: &[u8], f: Frame, from: Walk, n: usize) -> Walked
-    requires { (f.depth.bytes ≤ 3) × (f.total ≤ 67108864) × (from.pixels ≤ f.total) }
+    requires { from.pixels ≤ f.total }
     ensures { WalksOrders (frame_of f) src.now from n result }
 {
     let headers = Headers::new();

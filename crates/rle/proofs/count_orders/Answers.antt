@@ -1,6 +1,5 @@
 -- `count_orders` meets its contract: refused before the stream, or walked to its end. Assumes nothing.
 use Prim.Native.Nat.{zero-le}
-use Rattle.rle.proofs.Calls.{frame_known}
 use Rattle.rle.proofs.Counting.{counts-refused, counts_walked}
 use Rattle.rle.proofs.count_orders.Goals as goal
 
@@ -10,8 +9,7 @@ returns-in-Err c =
 
 pub walk_orders-r-requires : goal.walk_orders-r-requires
 walk_orders-r-requires c =
-    let k = frame_known c.args.bpp c.args.width c.args.height c.in-Ok.f c.in-Ok.ensures in
-    rw c.start.ensures (k.high, k.few, zero-le)
+    rw c.start.ensures zero-le
 
 pub returns : goal.returns
 returns c =

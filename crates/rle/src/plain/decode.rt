@@ -1,13 +1,14 @@
 // The plain decoder's loop over the stream's orders.
-ghost use Rattle.std.specs.Prelude.{length};
-ghost use Rattle.rle.specs.States.{frame_of, Framed};
+ghost use Rattle.std.specs.Prelude.{◌*◌, ◌≤◌, length};
+ghost use Rattle.rle.specs.States.{frame_of};
 ghost use Rattle.rle.specs.Orders.{Decodes};
 
 use crate::decode::Decoder;
+use crate::frame::Frame;
 use crate::head::read_head;
 use crate::header::Headers;
 use crate::plain::order::order;
-use crate::state::{Frame, State, Stepped};
+use crate::state::{State, Stepped};
 use crate::walk::{insert_kept, still_first_row};
 
 // The decoder whose pixels are painted one by one.
@@ -21,7 +22,7 @@ impl Decoder for Plain {
 
 // All orders of the stream.
 pub(crate) fn decode(src: &[u8], dst: &mut [u8], f: Frame) -> Stepped
-    requires { Framed (length dst.old) (frame_of f) }
+    requires { f.total * f.depth.bytes ≤ length dst.old }
     ensures { Decodes (frame_of f) src.now dst.old dst.new result }
 {
     let headers = Headers::new();

@@ -2,7 +2,7 @@
 use mathlib.Core.Path.{refl}
 use native.Mathlib.Nat.{mul-le-mul}
 use native.Mathlib.Omega.{arith}
-use Rattle.rle.proofs.Calls.{reports_refused, reports_short, frame_known, reports_decoded}
+use Rattle.rle.proofs.Calls.{reports_refused, reports_short, reports_decoded}
 use Rattle.rle.proofs.decode.decompress_by.Goals as goal
 
 pub returns-in-Err : goal.returns-in-Err
@@ -11,16 +11,11 @@ returns-in-Err g c =
 
 pub overflow_mul-needed : goal.overflow_mul-needed
 overflow_mul-needed g c =
-    let k = frame_known c.args.bpp c.args.width c.args.height c.in-Ok.f (rw c.in-Ok.is at c.new.ensures) in
-    omega (arith, mul-le-mul k.few k.high)
+    omega (arith, mul-le-mul c.in-Ok.f.few c.in-Ok.f.high)
 
 pub returns-then-given-needed : goal.returns-then-given-needed
 returns-then-given-needed g c =
     reports_short _ _ c.args.bpp c.args.width c.args.height c.not_decoded-then-given-needed.ensures c.in-Ok.f (rw c.in-Ok.is at c.new.ensures) c.if-given-needed.true refl
-
-pub decode-r-requires : goal.decode-r-requires
-decode-r-requires g c =
-    (frame_known c.args.bpp c.args.width c.args.height c.in-Ok.f (rw c.in-Ok.is at c.new.ensures)).good _ c.if-given-needed.false
 
 pub returns : goal.returns
 returns g c =

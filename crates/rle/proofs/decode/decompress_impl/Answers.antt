@@ -10,12 +10,12 @@ use Rattle.rle.proofs.decode.decompress_impl.Goals as goal
 
 pub loop-f-init : goal.loop-f-init
 loop-f-init c =
-    (rw c.start-s.ensures (between_start c.args.f _ _ c.requires), λ _. le_refl _, le_refl _)
+    (rw c.start-s.ensures (between_start c.args.f _ _), λ _. le_refl _, le_refl _)
 
 pub orders_to-r-requires : goal.orders_to-r-requires
 orders_to-r-requires c =
     let i = c.loop-f.invariant in
-    record { framed = rw i.0.same c.requires; between_orders = between_here _ _ _ _ _ i.0; limit_le_width = i.1 }
+    record { fits = rw i.0.same c.requires; between_orders = between_here _ _ _ _ _ i.0; limit_le_width = i.1 }
 
 pub shape_of-dst-then-is_err : goal.shape_of-dst-then-is_err
 shape_of-dst-then-is_err c =
@@ -37,7 +37,7 @@ returns-then-src-t c =
 
 pub overflow_add-limit : goal.overflow_add-limit
 overflow_add-limit c =
-    omega (arith, c.requires.few)
+    omega (arith, c.args.f.few)
 
 pub loop-f-smaller : goal.loop-f-smaller
 loop-f-smaller c =

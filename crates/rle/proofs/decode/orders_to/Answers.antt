@@ -5,7 +5,7 @@ use native.Mathlib.Nat.{le_refl}
 use native.Mathlib.Omega.{arith}
 use Rattle.rle.proofs.Endings.{fails, completes}
 use Rattle.rle.proofs.FirstRow.{row_stays}
-use Rattle.rle.proofs.Stream.{invariant_at, order_read, order-refused, between_refused, between_on}
+use Rattle.rle.proofs.Stream.{framed, invariant_at, order_read, order-refused, between_refused, between_on}
 use Rattle.rle.proofs.decode.orders_to.Goals as goal
 
 pub loop-t-init : goal.loop-t-init
@@ -35,7 +35,7 @@ order-r-requires c =
     let i = c.loop-t.invariant in
     let at = rw c.in-Ok-Some.field-0-is at c.in-Ok-Some.ensures in
     rw c.moved.ensures
-    (record { ready = record { frame = rw i.0.same c.requires.framed; invariant = invariant_at _ i.0.invariant; some = at.some; few = at.few }; pos_in_bounds = at.place; fixed = at.fixed })
+    (record { ready = record { frame = framed c.args.f _ (rw i.0.same c.requires.fits); invariant = invariant_at _ i.0.invariant; some = at.some; few = at.few }; pos_in_bounds = at.place; fixed = at.fixed })
 
 pub returns-then-is_err : goal.returns-then-is_err
 returns-then-is_err c =

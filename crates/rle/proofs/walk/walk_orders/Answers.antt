@@ -6,7 +6,7 @@ use Rattle.rle.proofs.Walks.{enough, order-refused, order-completed, record_walk
 use Rattle.rle.proofs.walk.walk_orders.Goals as goal
 
 pub loop-head-init : goal.loop-head-init
-loop-head-init c = walked_start (frame_of c.args.f) _ _ _ c.requires.2
+loop-head-init c = walked_start (frame_of c.args.f) _ _ _ c.requires
 
 pub returns-in_default : goal.returns-in_default
 returns-in_default c = rw c.stopped-in_default.ensures (walked_end c.loop-head.invariant (rw c.in_default.is at c.in-Ok.ensures))
@@ -18,7 +18,7 @@ returns-in-Err c =
     (head-refused c.args.f _ c.loop-head.walk c.loop-head.invariant.within c.in-Err.ensures))
 
 pub room-requires : goal.room-requires
-room-requires c = (c.requires.0, c.requires.1, c.loop-head.invariant.within)
+room-requires c = c.loop-head.invariant.within
 
 pub overflow_sub-src : goal.overflow_sub-src
 overflow_sub-src c = (rw c.in-Some.is at c.in-Ok.ensures).place
@@ -32,7 +32,7 @@ pub overflow_add-walk : goal.overflow_add-walk
 overflow_add-walk c =
     let at = rw c.in-Some.is at c.in-Ok.ensures in
     let e = enough c.args.f _ c.loop-head.walk c.loop-head.invariant.within at c.order-p.result (rw (c.room.ensures.0, c.room.ensures.1) at c.order-p.ensures) in
-    omega (arith, e.pixels, c.loop-head.invariant.within, c.requires.1)
+    omega (arith, e.pixels, c.loop-head.invariant.within, c.args.f.few)
 
 pub returns-in-Err-ending : goal.returns-in-Err-ending
 returns-in-Err-ending c =
@@ -45,7 +45,7 @@ pub overflow_add-walk-in-loop-head : goal.overflow_add-walk-in-loop-head
 overflow_add-walk-in-loop-head c =
     let at = rw c.in-Some.is at c.in-Ok.ensures in
     let e = enough c.args.f _ c.loop-head.walk c.loop-head.invariant.within at c.order-p.result (rw (c.room.ensures.0, c.room.ensures.1) at c.order-p.ensures) in
-    omega (arith, e.pixels, c.loop-head.invariant.within, c.requires.1)
+    omega (arith, e.pixels, c.loop-head.invariant.within, c.args.f.few)
 
 pub overflow_add-walk-in-loop-head-2 : goal.overflow_add-walk-in-loop-head-2
 overflow_add-walk-in-loop-head-2 c =
@@ -55,7 +55,7 @@ overflow_add-walk-in-loop-head-2 c =
 
 -- the walk's orders are not too many to count one more
 pub overflow_add-orders : goal.overflow_add-orders
-overflow_add-orders c = omega (arith, c.loop-head.invariant.counted, c.loop-head.invariant.within, c.requires.1)
+overflow_add-orders c = omega (arith, c.loop-head.invariant.counted, c.loop-head.invariant.within, c.args.f.few)
 
 pub returns-then-n-orders : goal.returns-then-n-orders
 returns-then-n-orders c =

@@ -6,12 +6,12 @@ use lib.ListN.{length}
 use Rattle.rle.specs.States.{first_row_ended}
 use Rattle.rle.proofs.Endings.{fails, completes}
 use Rattle.rle.proofs.FirstRow.{row_again, invariant_marked}
-use Rattle.rle.proofs.Stream.{invariant_at, order_read, order-refused, between_start, between_end, between_marked, decodes_refused, between_on}
+use Rattle.rle.proofs.Stream.{framed, invariant_at, order_read, order-refused, between_start, between_end, between_marked, decodes_refused, between_on}
 use Rattle.rle.proofs.plain.decode.decode.Goals as goal
 
 pub loop-o-init : goal.loop-o-init
 loop-o-init c =
-    rw c.start-s.ensures (between_start c.args.f _ _ c.requires)
+    rw c.start-s.ensures (between_start c.args.f _ _)
 
 pub returns-in-Ok-None : goal.returns-in-Ok-None
 returns-in-Ok-None c =
@@ -32,7 +32,7 @@ order-r-requires c =
     let l = c.loop-o in
     let at = rw c.in-Ok-Some.field-0-is at c.in-Ok-Some.ensures in
     rw (c.insert_kept.ensures, c.still_first_row.ensures)
-    (record { ready = record { frame = rw l.invariant.same c.requires; invariant = invariant_at _ (invariant_marked c.args.f l.s l.invariant.invariant); some = at.some; few = at.few }; pos_in_bounds = at.place })
+    (record { ready = record { frame = framed c.args.f _ (rw l.invariant.same c.requires); invariant = invariant_at _ (invariant_marked c.args.f l.s l.invariant.invariant); some = at.some; few = at.few }; pos_in_bounds = at.place })
 
 pub returns-then-is_err : goal.returns-then-is_err
 returns-then-is_err c =

@@ -7,8 +7,9 @@ use Rattle.base.proofs.Tests.{clash}
 use Rattle.picture.specs.declared.outcome.RleError.TheVariants.{InvalidBpp}
 use Rattle.picture.specs.Sizes.{depth_index, depth_of, accept}
 use Rattle.picture.specs.Outcomes.{depth_in}
+use Rattle.picture.proofs.Depths.{Good, depth_good}
 use Rattle.picture.proofs.Sizes.{size-bpp, size-refused, sized, few}
-use Rattle.rle.proofs.state.Frame.new.Goals as goal
+use Rattle.rle.proofs.frame.Frame.new.Goals as goal
 
 pub returns-in_err-depth : goal.returns-in_err-depth
 returns-in_err-depth c =
@@ -28,6 +29,15 @@ overflow_mul-result c =
     let a = c.args in
     let k = sized a.bpp a.width a.height _ c.in_ok-picture_size.ensures in
     omega (arith, few k.width k.height)
+
+-- the depth is a row of the table, and the sizes are good
+pub invariant_of-result : goal.invariant_of-result
+invariant_of-result c =
+    let a = c.args in
+    let k = sized a.bpp a.width a.height _ c.in_ok-picture_size.ensures in
+    let row : depth_in c.in_ok-depth.depth ≡ depth_of a.bpp = rw c.in_ok-depth.ensures.ok_part at c.depth_of.ensures.row in
+    let d : Good (depth_in c.in_ok-depth.depth) = rw row (depth_good a.bpp k.known) in
+    record { low = d.low; high = d.high; white = d.white; black = d.black; wide = k.wide; few = few k.width k.height }
 
 pub returns : goal.returns
 unfolding accept
