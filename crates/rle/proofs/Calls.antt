@@ -7,7 +7,7 @@ use native.Mathlib.Omega.{arith}
 use lib.ListN.{length, take-append-drop}
 use lib.Seq.{length-take-le}
 use borrow.Author.Tests.{lt-ltb, le-ltb}
-use Rattle.std.specs.Prelude.{Ok, Err}
+use Rattle.std.specs.Prelude.{Result, Ok, Err, MatchResult}
 use Rattle.rle.specs.declared.frame.Frame.{Frame as CodeFrame}
 use Rattle.rle.specs.declared.state.Stepped.{Stepped}
 use Rattle.rle.specs.declared.report.Report.{Report}
@@ -22,13 +22,18 @@ use Rattle.rle.specs.Report.{summary_in, Agrees, Decompresses}
 use Rattle.rle.specs.Planning.{CodeEnding}
 use Rattle.rle.specs.States.{frame_of, state_of, Framed}
 use Rattle.rle.specs.Orders.{Decodes, run_in}
-use Rattle.rle.specs.Reporting.{refusal_after, format_after, summary_after, not_decoded}
+use Rattle.rle.specs.Reporting.{refusal_after, format_after, summary_after, not_decoded, report_in}
 use Rattle.picture.proofs.Pixels.{length-pixels_of, bytes-pixels}
 use Rattle.picture.proofs.Sizes.{sized}
 use Rattle.rle.proofs.Stream.{framed}
 use Rattle.definition.proofs.Bounds.{Bytes, last, decode_bounds}
 
 -- ---- refusals before the stream
+
+-- what `unwrap_or_else` makes of a report or a refusal
+pub unwrapped : (q : Result Report RleError) (r : Report) → MatchResult q (λ x. r ≡ x) (λ e. r ≡ not_decoded e) → r ≡ report_in q
+unwrapped (Ok x) r h = h
+unwrapped (Err e) r h = h
 
 refused-is : (src before : List ℕ) (total : ℕ) {c : Checked} (e : RleError) → c ≡ refused (refusal_of e)
     → Agrees src before before total (not_decoded e) (of_checked src c)
@@ -44,18 +49,16 @@ refused-is src before total e p =
       bounded = zero-le;
     })
 
-module _ (src before : List ℕ) (bpp w h : ℕ) {r : Report} {e : RleError} (is : r ≡ not_decoded e) where
-  pub reports_refused : refused (refusal_of e) ≡ checked bpp w h → Decompresses src bpp w h before before r
+module _ (src before : List ℕ) (bpp w h : ℕ) {e : RleError} where
+  pub reports_refused : refused (refusal_of e) ≡ checked bpp w h → Decompresses src bpp w h before before (not_decoded e)
   unfolding result_in with_space
-  reports_refused s =
-      rw is
-      (refused-is src before (w * h) e (ap (λ (c : Checked). with_space (length before) c) (sym s)))
+  reports_refused s = refused-is src before (w * h) e (ap (λ (c : Checked). with_space (length before) c) (sym s))
 
   pub reports_short : (f : CodeFrame) → accepted (frame_of f) (format_of f.depth.format) ≡ checked bpp w h
-      → length before < f.total * f.depth.bytes → e ≡ BufferTooShort (f.total * f.depth.bytes) (length before) → Decompresses src bpp w h before before r
+      → length before < f.total * f.depth.bytes → e ≡ BufferTooShort (f.total * f.depth.bytes) (length before)
+      → Decompresses src bpp w h before before (not_decoded e)
   unfolding result_in with_space
-  reports_short f s l q =
-      rw is (refused-is src before (w * h) e (rw (← s, q, lt-ltb (length before) (f.total * f.depth.bytes) l)))
+  reports_short f s l q = refused-is src before (w * h) e (rw (← s, q, lt-ltb (length before) (f.total * f.depth.bytes) l))
 
 -- ---- the stream
 

@@ -1,7 +1,7 @@
 -- Laws of the first row's end: before a row is painted it changes nothing, nor does it a second time. Assumes nothing.
 use mathlib.Core.Path.{◌≡◌, refl, ap, sym, ◌∙◌}
 use mathlib.Core.List.{List}
-use mathlib.Core.Bool.{Bool, true, false}
+use mathlib.Core.Bool.{Bool, true, false, ◌&&◌, beq}
 use Prim.Native.Nat.{ℕ, ◌≤◌, ◌<◌, zero-le}
 use lib.Dec.{ltb}
 use lib.ListN.{drop}
@@ -62,6 +62,26 @@ module _ (f : CodeFrame) (s : CodeState) where
         foreground = invariant.foreground;
         counted = invariant.counted;
       }
+
+-- the plain decoder works it out without a test
+module _ (f : CodeFrame) (s : CodeState) where
+  pub row_ended : s.first_row && ltb s.pixels f.width ≡ (first_row_ended f s).first_row
+  row_ended = so s.first_row
+    where
+      so : (first : Bool) → first && ltb s.pixels f.width ≡ pick first (ltb s.pixels f.width) false
+      so true = refl
+      so false = refl
+
+  pub insert_ended : s.insert && beq (s.first_row && ltb s.pixels f.width) s.first_row ≡ (first_row_ended f s).insert
+  insert_ended = so s.first_row (ltb s.pixels f.width) s.insert
+    where
+      so : (first stays insert : Bool) → insert && beq (first && stays) first ≡ pick first (pick stays insert false) insert
+      so true true true = refl
+      so true true false = refl
+      so true false true = refl
+      so true false false = refl
+      so false stays true = refl
+      so false stays false = refl
 
 -- a second time it changes nothing
 pub row_again : (f : CodeFrame) (s : CodeState) → first_row_ended f (first_row_ended f s) ≡ first_row_ended f s

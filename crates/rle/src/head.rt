@@ -45,14 +45,12 @@ pub(crate) fn extract_run_length_mega(
     requires { (pos ≤ length src.now) × (1 ≤ mega) × (mega ≤ 32) }
     ensures { ReadsLength src.now pos in_byte result (mega_length mega (drop pos src.now)) }
 {
-    match u8_from(src, pos) {
-        Err(error) => Err(NoLength { error, next: pos }),
-        Ok(byte) => Ok(RunLength {
-            pixels: byte + mega,
-            place: Place::InByte,
-            next: pos + 1,
-        }),
-    }
+    let byte = u8_from(src, pos).map_err(|error| NoLength { error, next: pos })?;
+    Ok(RunLength {
+        pixels: byte + mega,
+        place: Place::InByte,
+        next: pos + 1,
+    })
 }
 
 // A length of two bytes.
@@ -60,18 +58,18 @@ pub(crate) fn extract_run_length_mega_mega(src: &[u8], pos: usize) -> Result<Run
     requires { pos ≤ length src.now }
     ensures { ReadsLength src.now pos in_two_bytes result (mega_mega_length (drop pos src.now)) }
 {
-    match u16_from(src, pos) {
-        Err(error) => Err(NoLength { error, next: pos }),
-        Ok(0) => Err(NoLength {
+    let pixels = u16_from(src, pos).map_err(|error| NoLength { error, next: pos })?;
+    if pixels == 0 {
+        return Err(NoLength {
             error: RleError::UnexpectedZeroLength,
             next: pos + 2,
-        }),
-        Ok(pixels) => Ok(RunLength {
-            pixels,
-            place: Place::InTwoBytes,
-            next: pos + 2,
-        }),
+        });
     }
+    Ok(RunLength {
+        pixels,
+        place: Place::InTwoBytes,
+        next: pos + 2,
+    })
 }
 
 // What a kind adds to a length of one byte.

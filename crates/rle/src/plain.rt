@@ -18,5 +18,5 @@ use crate::report::Report;
 pub fn decompress(src: &[u8], dst: &mut [u8], width: usize, height: usize, bpp: usize) -> Report
     ensures { Decompresses src.now bpp width height dst.old dst.new result }
 {
-    decompress_by::<Plain>(src, dst, width, height, bpp)
+    decompress_by::<Plain>(src, dst, width, height, bpp).unwrap_or_else(Report::from)
 }

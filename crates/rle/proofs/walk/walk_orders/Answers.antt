@@ -45,13 +45,13 @@ pub overflow_add-walk-in-loop-head : goal.overflow_add-walk-in-loop-head
 overflow_add-walk-in-loop-head c =
     let at = rw c.in-Some.is at c.in-Ok.ensures in
     let e = enough c.args.f _ c.loop-head.walk c.loop-head.invariant.within at c.order-p.result (rw (c.room.ensures.0, c.room.ensures.1) at c.order-p.ensures) in
-    omega (arith, e.pixels, c.loop-head.invariant.within, c.args.f.few)
+    omega (arith, e.read, at.place)
 
 pub overflow_add-walk-in-loop-head-2 : goal.overflow_add-walk-in-loop-head-2
 overflow_add-walk-in-loop-head-2 c =
     let at = rw c.in-Some.is at c.in-Ok.ensures in
     let e = enough c.args.f _ c.loop-head.walk c.loop-head.invariant.within at c.order-p.result (rw (c.room.ensures.0, c.room.ensures.1) at c.order-p.ensures) in
-    omega (arith, e.read, at.place)
+    rw c.end_first_row-begun.ensures (omega (arith, e.pixels, c.loop-head.invariant.within, c.args.f.few))
 
 -- the walk's orders are not too many to count one more
 pub overflow_add-orders : goal.overflow_add-orders
@@ -60,9 +60,9 @@ overflow_add-orders c = omega (arith, c.loop-head.invariant.counted, c.loop-head
 pub returns-then-n-orders : goal.returns-then-n-orders
 returns-then-n-orders c =
     let at = rw c.in-Some.is at c.in-Ok.ensures in
-    rw (c.stopped-then-n-orders.ensures, c.still_first_row.ensures, c.leaves_insert.ensures)
+    rw (c.stopped-then-n-orders.ensures, c.end_first_row-begun.ensures, c.leaves_insert.ensures)
     (walked_order c.loop-head.invariant (order-completed c.args.f _ c.loop-head.walk c.loop-head.invariant.within at c.order-p.result (rw (c.room.ensures.0, c.room.ensures.1) at c.order-p.ensures) c.in_default-ending.is) c.if-n-orders.true _
-    (λ k. rw (c.record_at-r.ensures, c.insert_kept-insert.ensures, c.still_first_row.ensures) (record_walked c.args.f _ c.loop-head.walk c.loop-head.invariant.within at c.order-p.result (rw (c.room.ensures.0, c.room.ensures.1) at c.order-p.ensures) k)))
+    (λ k. rw (c.new-r.ensures, c.end_first_row-begun.ensures) (record_walked c.args.f _ c.loop-head.walk c.loop-head.invariant.within at c.order-p.result (rw (c.room.ensures.0, c.room.ensures.1) at c.order-p.ensures) k)))
 
 pub loop-head-smaller : goal.loop-head-smaller
 loop-head-smaller c =
@@ -73,5 +73,5 @@ loop-head-smaller c =
 pub loop-head-preserved : goal.loop-head-preserved
 loop-head-preserved c =
     let at = rw c.in-Some.is at c.in-Ok.ensures in
-    rw (c.still_first_row.ensures, c.leaves_insert.ensures)
+    rw (c.end_first_row-begun.ensures, c.leaves_insert.ensures)
     (walked_on c.loop-head.invariant (order-completed c.args.f _ c.loop-head.walk c.loop-head.invariant.within at c.order-p.result (rw (c.room.ensures.0, c.room.ensures.1) at c.order-p.ensures) c.in_default-ending.is) c.if-n-orders.false)

@@ -5,9 +5,9 @@ use native.Mathlib.Omega.{arith}
 use lib.ListN.{length}
 use Rattle.rle.specs.States.{first_row_ended}
 use Rattle.rle.proofs.Endings.{fails, completes}
-use Rattle.rle.proofs.FirstRow.{row_again, invariant_marked}
+use Rattle.rle.proofs.FirstRow.{row_ended, insert_ended, row_again, invariant_marked}
 use Rattle.rle.proofs.Stream.{framed, invariant_at, order_read, order-refused, between_start, between_end, between_marked, decodes_refused, between_on}
-use Rattle.rle.proofs.plain.decode.decode.Goals as goal
+use Rattle.rle.proofs.plain.decode.PlainDecoder.decode.Goals as goal
 
 pub loop-o-init : goal.loop-o-init
 loop-o-init c =
@@ -24,14 +24,14 @@ returns-in-Err c =
     let at = c.in-Err.ensures in
     let inside : l.s.pos < length a.src.now = omega (arith, at.reads, at.place) in
     let marked = between_marked a.f _ _ _ l.s l.invariant inside in
-    rw (c.insert_kept.ensures, c.still_first_row.ensures)
+    rw (insert_ended c.args.f c.loop-o.s, row_ended c.args.f c.loop-o.s)
     (decodes_refused _ _ _ _ _ marked inside _ _ (order-refused a.f _ _ (first_row_ended a.f l.s) (row_again a.f l.s) at marked.invariant) _ refl)
 
 pub order-r-requires : goal.order-r-requires
 order-r-requires c =
     let l = c.loop-o in
     let at = rw c.in-Ok-Some.field-0-is at c.in-Ok-Some.ensures in
-    rw (c.insert_kept.ensures, c.still_first_row.ensures)
+    rw (insert_ended c.args.f c.loop-o.s, row_ended c.args.f c.loop-o.s)
     (record { ready = record { frame = framed c.args.f _ (rw l.invariant.same c.requires); invariant = invariant_at _ (invariant_marked c.args.f l.s l.invariant.invariant); some = at.some; few = at.few }; pos_in_bounds = at.place })
 
 pub returns-then-is_err : goal.returns-then-is_err
@@ -41,7 +41,7 @@ returns-then-is_err c =
     let m = between_marked c.args.f _ _ _ l.s l.invariant (omega (arith, at.reads, at.place)) in
     let d =
     order_read c.args.f _ _ (first_row_ended c.args.f l.s) (row_again c.args.f l.s) at _ _
-    (rw (c.insert_kept.ensures, c.still_first_row.ensures) at c.order-r.ensures) in
+    (rw (insert_ended c.args.f c.loop-o.s, row_ended c.args.f c.loop-o.s) at c.order-r.ensures) in
     decodes_refused _ _ _ _ _ m d.2 _ _ d.0 _ (fails c.order-r.result.ending c.if-is_err.ensures.value).is
 
 pub loop-o-smaller : goal.loop-o-smaller
@@ -51,7 +51,7 @@ loop-o-smaller c =
     let m = between_marked c.args.f _ _ _ l.s l.invariant (omega (arith, at.reads, at.place)) in
     let d =
     order_read c.args.f _ _ (first_row_ended c.args.f l.s) (row_again c.args.f l.s) at _ _
-    (rw (c.insert_kept.ensures, c.still_first_row.ensures) at c.order-r.ensures) in
+    (rw (insert_ended c.args.f c.loop-o.s, row_ended c.args.f c.loop-o.s) at c.order-r.ensures) in
     omega (arith, d.1, d.2)
 
 pub loop-o-preserved : goal.loop-o-preserved
@@ -61,5 +61,5 @@ loop-o-preserved c =
     let m = between_marked c.args.f _ _ _ l.s l.invariant (omega (arith, at.reads, at.place)) in
     let d =
     order_read c.args.f _ _ (first_row_ended c.args.f l.s) (row_again c.args.f l.s) at _ _
-    (rw (c.insert_kept.ensures, c.still_first_row.ensures) at c.order-r.ensures) in
+    (rw (insert_ended c.args.f c.loop-o.s, row_ended c.args.f c.loop-o.s) at c.order-r.ensures) in
     between_on _ _ _ _ _ m d.2 _ _ d.0 (completes c.order-r.result.ending c.if-is_err.ensures.value) d.1 c.order-r.auto.dst

@@ -1,4 +1,4 @@
--- `decompress_impl` meets its contract. The invariant: what is left of the stream gives what the whole stream gives, and the first row
+-- `decode` meets its contract. The invariant: what is left of the stream gives what the whole stream gives, and the first row
 -- does not end before the limit. The limit is raised once, so there are at most two turns. Assumes nothing.
 use mathlib.Core.Path.{◌∙◌}
 use native.Mathlib.Nat.{le_refl}
@@ -6,7 +6,7 @@ use native.Mathlib.Omega.{arith}
 use Rattle.rle.proofs.Endings.{fails, completes}
 use Rattle.rle.proofs.FirstRow.{row_begun}
 use Rattle.rle.proofs.Stream.{between_start, between_here, between_end, between_marked, decoded-refused, decoded_on}
-use Rattle.rle.proofs.decode.decompress_impl.Goals as goal
+use Rattle.rle.proofs.decode.FastDecoder.decode.Goals as goal
 
 pub loop-f-init : goal.loop-f-init
 loop-f-init c =

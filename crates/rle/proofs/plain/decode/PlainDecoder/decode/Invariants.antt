@@ -3,7 +3,7 @@ use Prim.Native.Nat.{◌-◌}
 use lib.ListN.{length}
 use Rattle.rle.specs.States.{frame_of}
 use Rattle.rle.specs.Orders.{BetweenOrders}
-use Rattle.rle.proofs.plain.decode.decode.Given as goal
+use Rattle.rle.proofs.plain.decode.PlainDecoder.decode.Given as goal
 
 abbrev pub invariant-loop-o : goal.invariant-loop-o
 invariant-loop-o l = BetweenOrders (frame_of l.f) l.src l.initial.dst l.dst l.s
