@@ -104,12 +104,10 @@ pub(crate) fn walk_orders(src: &[u8], f: Frame, from: Walk, n: usize) -> Walked
     let mut walk = from;
     let mut orders = 0;
     loop {
-        let head = match read_head(src, &headers, walk.pos) {
-            Ok(head) => head,
+        let o = match read_head(src, &headers, walk.pos) {
+            Ok(Some(o)) => o,
+            Ok(None) => return walk.stopped(Ok(None), orders),
             Err(r) => return walk.stopped(Err(r.error), orders),
-        };
-        let Some(o) = head else {
-            return walk.stopped(Ok(None), orders);
         };
         let p = f
             .room(walk.pixels)
