@@ -58,18 +58,17 @@ pub(crate) fn extract_run_length_mega_mega(src: &[u8], pos: usize) -> Result<Run
     requires { pos ≤ length src.now }
     ensures { ReadsLength src.now pos in_two_bytes result (mega_mega_length (drop pos src.now)) }
 {
-    let pixels = u16_from(src, pos).map_err(|error| NoLength { error, next: pos })?;
-    if pixels == 0 {
-        return Err(NoLength {
+    match u16_from(src, pos).map_err(|error| NoLength { error, next: pos })? {
+        0 => Err(NoLength {
             error: RleError::UnexpectedZeroLength,
             next: pos + 2,
-        });
+        }),
+        pixels => Ok(RunLength {
+            pixels,
+            place: Place::InTwoBytes,
+            next: pos + 2,
+        }),
     }
-    Ok(RunLength {
-        pixels,
-        place: Place::InTwoBytes,
-        next: pos + 2,
-    })
 }
 
 // What a kind adds to a length of one byte.

@@ -15,14 +15,14 @@ returns-in_err-pixels c =
     let is : c.in_err-pixels.field-0.0 ≡ record { error = m.0; next = c.args.pos } = search rules in
     rw (e.1, e.2, is) (long_short c.args.src.now c.args.pos c.requires _ (u16_few c.args.src.now c.args.pos _ _ c.u16_from.ensures m.1))
 
-pub returns-then-pixels-eq0 : goal.returns-then-pixels-eq0
-returns-then-pixels-eq0 c =
+pub returns-in-0 : goal.returns-in-0
+returns-in-0 c =
     long-zero c.args.src.now c.args.pos c.requires _
-    (u16_is c.args.src.now c.args.pos _ _ c.u16_from.ensures (was_ok c.u16_from.result _ c.in_ok-pixels.ensures.cases)) c.if-pixels-eq0.true
+    (u16_is c.args.src.now c.args.pos _ _ c.u16_from.ensures (was_ok c.u16_from.result _ c.in_ok-pixels.ensures.cases)) c.in-0.is
 
-pub returns : goal.returns
-returns c =
+pub returns-in_default : goal.returns-in_default
+returns-in_default c =
     let byte = c.type_inv.src in
     long-is c.args.src.now c.args.pos c.requires _
     (u16_is c.args.src.now c.args.pos _ _ c.u16_from.ensures (was_ok c.u16_from.result _ c.in_ok-pixels.ensures.cases))
-    (omega (arith, byte c.args.pos)) (omega (arith, byte (c.args.pos + 1))) c.if-pixels-eq0.false
+    (omega (arith, byte c.args.pos)) (omega (arith, byte (c.args.pos + 1))) (search rules)
