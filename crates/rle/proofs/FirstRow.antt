@@ -5,7 +5,7 @@ use mathlib.Core.Bool.{Bool, true, false, ◌&&◌, beq}
 use Prim.Native.Nat.{ℕ, ◌≤◌, ◌<◌, zero-le}
 use lib.Dec.{ltb}
 use lib.ListN.{drop}
-use borrow.Author.Tests.{lt-ltb, le-ltb, ltb-true, ltb-false}
+use borrow.Author.Tests.{lt-ltb, ltb-true, ltb-false}
 use Rattle.rle.specs.declared.frame.Frame.{Frame as CodeFrame}
 use Rattle.rle.specs.declared.state.State.{State as CodeState}
 use Rattle.base.specs.Picks.{pick}
@@ -39,12 +39,6 @@ module _ (f : CodeFrame) (s : CodeState) where
         first_row = e.1 i;
         orders = s.orders;
       }
-
-  -- a row that is painted ends
-  pub row_ends : s.first_row ≡ true → f.width ≤ s.pixels
-      → first_row_ended f s
-      ≡ record { foreground = s.foreground; pos = s.pos; insert = false; pixels = s.pixels; first_row = false; orders = s.orders }
-  row_ends on h = rw (on, le-ltb s.pixels f.width h)
 
   pub row_begun : (first_row_ended f s).first_row ≡ true → s.pixels < f.width
   row_begun e = ltb-true s.pixels f.width (both_true s.first_row (ltb s.pixels f.width) e).1
