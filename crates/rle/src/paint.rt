@@ -8,6 +8,8 @@ ghost use Rattle.definition.specs.Decode as decode;
 ghost use Rattle.definition.specs.Plan.{image_ink};
 ghost use Rattle.rle.specs.Painting.{HasPlace, HasAbove, Paintable, HasColor, PaintedOne, Paints, ink_of, zero_ink, insert_inks, back_and_color};
 
+ghost use Rattle.byte_runs.specs.Runs.{run, xored, turn};
+
 use crate::pixel::{read_pixel, write_pixel, xor};
 use crate::span::Span;
 use copy::{copy_back, copy_in};
@@ -23,8 +25,20 @@ pub(crate) enum Ink {
     AboveXor([u8; 3]),
 }
 
+// n pixels of d bytes from dst[at] on, those `row` bytes back exclusive-or a color. It stays a call, and takes numbers.
+#[inline(never)]
+pub(crate) fn xor_rows(dst: &mut [u8], d: usize, at: usize, n: usize, row: usize, p: [u8; 3])
+    requires { (1 ≤ d) × (d ≤ 3) × (row ≤ at) × (at + n * d ≤ length dst.old) }
+    ensures { dst.new ≡ run (xored at row (turn p d)) at (n * d) dst.old }
+{
+    let from = at - row;
+    let end = at + n * d;
+    xor_back(&mut dst[from..end], d, row, n, row, p);
+}
+
 impl Span {
     // Its pixel number i.
+    #[inline(always)]
     pub(crate) fn paint_pixel(self, dst: &mut [u8], i: usize, ink: Ink)
         requires place { HasPlace self dst.old }
         requires paintable { Paintable self ink }
@@ -48,6 +62,7 @@ impl Span {
 
     // In a color. The part that is lent is as long as the pixels, so that the compiler finds the tests of the writer to hold; and so
     // below.
+    #[inline(always)]
     pub(crate) fn paint_color(self, dst: &mut [u8], p: [u8; 3])
         requires place { HasPlace self dst.old }
         requires of_depth { OfDepth self.bytes p }
@@ -60,6 +75,7 @@ impl Span {
     }
 
     // With the pixels above.
+    #[inline(always)]
     pub(crate) fn paint_above(self, dst: &mut [u8])
         requires place { HasPlace self dst.old }
         requires above { HasAbove self }
@@ -75,6 +91,7 @@ impl Span {
     }
 
     // With the pixels above exclusive-or a color.
+    #[inline(always)]
     pub(crate) fn paint_xor(self, dst: &mut [u8], p: [u8; 3])
         requires place { HasPlace self dst.old }
         requires above { HasAbove self }
@@ -82,14 +99,11 @@ impl Span {
         ensures { Paints self (λ _. decode.Ink.above_xor p) dst.old dst.new }
     {
         let d = self.bytes;
-        let row = self.width * d;
-        let at = self.start * d;
-        let from = at - row;
-        let end = at + self.pixels * d;
-        xor_back(&mut dst[from..end], d, row, self.pixels, row, p);
+        xor_rows(dst, d, self.start * d, self.pixels, self.width * d, p);
     }
 
     // All with one ink.
+    #[inline(always)]
     pub(crate) fn paint_run(self, dst: &mut [u8], ink: Ink)
         requires place { HasPlace self dst.old }
         requires paintable { Paintable self ink }
@@ -106,6 +120,7 @@ impl Span {
     }
 
     // A foreground run.
+    #[inline(always)]
     pub(crate) fn paint_fg_run(self, dst: &mut [u8], ink: Ink)
         requires place { HasPlace self dst.old }
         requires paintable { Paintable self ink }
@@ -119,6 +134,7 @@ impl Span {
 
     // With a background's ink. After the first row it is the pixel above: by a call of its own that takes fewer instructions than the
     // way through all the inks.
+    #[inline(always)]
     pub(crate) fn paint_background(self, dst: &mut [u8], ink: Ink)
         requires place { HasPlace self dst.old }
         requires paintable { Paintable self ink }
@@ -131,6 +147,7 @@ impl Span {
     }
 
     // A background run, the first pixel with the inserted ink, if there is one.
+    #[inline(always)]
     pub(crate) fn paint_bg_run(self, dst: &mut [u8], insert: Option<Ink>, bg: Ink)
         requires place { HasPlace self dst.old }
         requires insert { IfSome insert (λ ink. Paintable self ink) }
@@ -151,6 +168,7 @@ impl Span {
     }
 
     // How many bytes back masks look, nowhere in the first row, and the color of their bits that are 1, by the ink of those.
+    #[inline(always)]
     pub(crate) fn back_and_color(self, ink: Ink) -> (Option<usize>, [u8; 3])
         requires paintable { Paintable self ink }
         requires in_range { self.start * self.bytes ≤ 18446744073709551615 }
@@ -192,6 +210,7 @@ impl Span {
 
     // By one mask, src[from], of which it has eight pixels at most. Here the whole target is lent: for so few pixels a part would take
     // longer than its tests.
+    #[inline(always)]
     pub(crate) fn paint_mask_part(self, src: &[u8], from: usize, dst: &mut [u8], ink: Ink)
         requires place { HasPlace self dst.old }
         requires paintable { Paintable self ink × HasColor ink }
@@ -214,6 +233,7 @@ impl Span {
     }
 
     // Eight pixels to a mask, by the masks from src[from] on.
+    #[inline(always)]
     pub(crate) fn paint_masks(self, src: &[u8], from: usize, dst: &mut [u8], ink: Ink)
         requires place { HasPlace self dst.old }
         requires paintable { Paintable self ink × HasColor ink }
@@ -233,6 +253,7 @@ impl Span {
     }
 
     // An even number of pixels, a and b by turns.
+    #[inline(always)]
     pub(crate) fn paint_dithered(self, dst: &mut [u8], a: [u8; 3], b: [u8; 3])
         requires place { HasPlace self dst.old }
         requires even { self.pixels % 2 ≡ 0 }
@@ -246,6 +267,7 @@ impl Span {
     }
 
     // One pixel or none.
+    #[inline(always)]
     pub(crate) fn paint_single(self, dst: &mut [u8], p: [u8; 3])
         requires place { HasPlace self dst.old }
         requires single { self.pixels ≤ 1 }
@@ -259,6 +281,7 @@ impl Span {
     }
 
     // With the pixels of the stream from src[pos] on.
+    #[inline(always)]
     pub(crate) fn paint_image(self, src: &[u8], pos: usize, dst: &mut [u8])
         requires place { HasPlace self dst.old }
         requires operands { pos + self.pixels * self.bytes ≤ length src.now }

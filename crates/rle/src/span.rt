@@ -19,6 +19,7 @@ impl Span {
     ghost use Rattle.rle.specs.Painting.{IsPart};
 
     // n of its pixels, from number i of them on.
+    #[inline(always)]
     pub(crate) fn part(self, i: usize, n: usize) -> Self
         requires { i + n ≤ self.pixels }
         ensures { IsPart self i n result }

@@ -28,10 +28,14 @@ pub(crate) fn paint_bg_run(dst: &mut [u8], span: Span, insert: Option<Ink>, bg: 
     requires bg { Paintable span bg }
     ensures { Paints span (insert_inks insert bg) dst.old dst.new }
 {
-    for i in 0..span.pixels {
-        let ink = if i == 0 { insert.unwrap_or(bg) } else { bg };
-        span.paint_pixel(dst, i, ink);
+    if span.pixels == 0 {
+        return;
     }
+    let Some(fg) = insert else {
+        return paint_run(dst, span, bg);
+    };
+    span.paint_pixel(dst, 0, fg);
+    paint_run(dst, span.part(1, span.pixels - 1), bg)
 }
 
 // By the bits of a mask.
