@@ -8,7 +8,7 @@ ghost use Rattle.rle.specs.Reporting.{report_in};
 use crate::frame::Frame;
 use crate::head::read_head;
 use crate::header::Headers;
-use crate::order::order;
+use crate::order::Order;
 use crate::report::Report;
 use crate::state::{State, Stepped};
 use picture::RleError;
@@ -61,7 +61,13 @@ pub(crate) fn orders_to(
             Ok(None) => return t.completed(),
             Err(r) => return t.moved(r.next).refused(r.error),
             Ok(Some(o)) => {
-                let r = order(src, dst, f, t.moved(o.next), o.kind, o.run_length);
+                let next = Order {
+                    src,
+                    frame: f,
+                    state: t.moved(o.next),
+                    run_length: o.run_length,
+                };
+                let r = next.carry_out(dst, o.kind);
                 if r.ending.is_err() {
                     return r;
                 }

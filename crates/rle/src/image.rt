@@ -1,28 +1,75 @@
 // Orders that paint images. Each plans the order, paints the pixels that the plan says, and ends as the plan says.
-ghost use Rattle.std.specs.Prelude.{◌≡◌, ◌⊎◌, List, ℕ, ◌≤◌, length, drop};
+ghost use Rattle.std.specs.Prelude.{◌≡◌, ◌⊎◌, drop};
 ghost use Rattle.definition.specs.Orders as orders;
-ghost use Rattle.definition.specs.Decode as decode;
 ghost use Rattle.definition.specs.Plan as plan;
 ghost use Rattle.rle.specs.Kinds.{kind_in};
 ghost use Rattle.rle.specs.declared.kind.Kind.TheVariants.{FgBgImage, SetFgBgImage, SpecialFgBg1, SpecialFgBg2};
-ghost use Rattle.rle.specs.States.{frame_of, with_fg};
-ghost use Rattle.rle.specs.Orders.{Ready, Executes};
+ghost use Rattle.rle.specs.States.{with_fg};
+ghost use Rattle.rle.specs.Carrying.{HasPicture, CarriesOut};
 
 use crate::kind::Kind;
+use crate::order::Order;
 use crate::plan::foreground_size;
-use crate::state::{Frame, State, Stepped};
+use crate::state::{State, Stepped};
 
-pub(crate) fn color_image(src: &[u8], dst: &mut [u8], f: Frame, s: State, n: usize) -> Stepped
-    requires ready { Ready (length dst.old) (frame_of f) s n }
-    requires pos_in_bounds { s.pos ≤ length src.now }
-    ensures { Executes (frame_of f) src.now dst.old dst.new s result (decode.order_of (frame_of f) orders.Kind.ColorImage n) }
-{
-    let p = f.room(s.pixels).color_image(n, src.len() - s.pos);
-    if p.pixels == 0 {
-        return s.finished(p, false);
+impl<'a> Order<'a> {
+    pub(crate) fn color_image(self, dst: &mut [u8]) -> Stepped
+        requires { HasPicture self dst.old }
+        ensures { CarriesOut self.entry orders.Kind.ColorImage dst.old dst.new result }
+    {
+        let s = self.state;
+        let left = self.src.len() - s.pos;
+        let p = self.frame.room(s.pixels).color_image(self.run_length, left);
+        if p.pixels == 0 {
+            return s.finished(p, false);
+        }
+        s.span(self.frame, p.pixels)
+            .paint_image(self.src, s.pos, dst);
+        s.finished(p, false)
     }
-    s.span(f, p.pixels).paint_image(src, s.pos, dst);
-    s.finished(p, false)
+
+    pub(crate) fn special_fgbg(self, dst: &mut [u8], kind: Kind) -> Stepped
+        requires place { HasPicture self dst.old }
+        requires eight { self.run_length ≡ 8 }
+        requires special { (kind ≡ SpecialFgBg1) ⊎ (kind ≡ SpecialFgBg2) }
+        ensures { CarriesOut self.entry (kind_in kind) dst.old dst.new result }
+    {
+        let s = self.state;
+        let p = self.frame.room(s.pixels).run(8);
+        let masks = [special_mask(kind)];
+        s.span(self.frame, p.pixels)
+            .paint_whole_masks(&masks, 0, dst, s.fg_ink());
+        s.finished(p, false)
+    }
+
+    // The state with the foreground that an order of this kind reads, if it does and its bytes are there.
+    pub(crate) fn with_foreground(self, kind: Kind) -> State
+        ensures { result ≡ with_fg self.entry.state (plan.foreground_by self.entry.frame.depth.bytes (kind_in kind) self.entry.state.foreground (drop self.entry.state.pos self.entry.src.now)) }
+    {
+        if kind.sets_foreground() {
+            return self.state.new_foreground(self.src, self.frame.depth.bytes);
+        }
+        self.state
+    }
+
+    // An fg/bg image, with or without a foreground of its own.
+    pub(crate) fn fgbg_image(self, dst: &mut [u8], kind: Kind) -> Stepped
+        requires place { HasPicture self dst.old }
+        requires image { (kind ≡ FgBgImage) ⊎ (kind ≡ SetFgBgImage) }
+        ensures { CarriesOut self.entry (kind_in kind) dst.old dst.new result }
+    {
+        let s = self.state;
+        let left = self.src.len() - s.pos;
+        let p = self
+            .frame
+            .room(s.pixels)
+            .fgbg_image(kind, self.run_length, left);
+        let t = self.with_foreground(kind);
+        let masks = s.pos + foreground_size(self.frame.depth.bytes, kind);
+        s.span(self.frame, p.pixels)
+            .paint_masks(self.src, masks, dst, t.fg_ink());
+        t.finished(p, false)
+    }
 }
 
 // The mask of a special fg/bg image.
@@ -34,49 +81,4 @@ pub(crate) fn special_mask(kind: Kind) -> u8
         Kind::SpecialFgBg1 => 0x03,
         _ => 0x05,
     }
-}
-
-pub(crate) fn special_fgbg(dst: &mut [u8], f: Frame, s: State, kind: Kind) -> Stepped
-    requires ready { Ready (length dst.old) (frame_of f) s 8 }
-    requires special { (kind ≡ SpecialFgBg1) ⊎ (kind ≡ SpecialFgBg2) }
-    ensures { (src : List ℕ) → s.pos ≤ length src → Executes (frame_of f) src dst.old dst.new s result (decode.order_of (frame_of f) (kind_in kind) 8) }
-{
-    let p = f.room(s.pixels).run(8);
-    let masks = [special_mask(kind)];
-    s.span(f, p.pixels)
-        .paint_whole_masks(&masks, 0, dst, s.fg_ink());
-    s.finished(p, false)
-}
-
-// The state with the foreground that an order of this kind reads, if it does and its bytes are there.
-pub(crate) fn image_foreground(src: &[u8], d: usize, s: State, kind: Kind) -> State
-    requires { (1 ≤ d) × (d ≤ 3) × (s.pos ≤ length src.now) }
-    ensures { result ≡ with_fg s (plan.foreground_by d (kind_in kind) s.foreground (drop s.pos src.now)) }
-{
-    if kind.sets_foreground() {
-        return s.new_foreground(src, d);
-    }
-    s
-}
-
-// An fg/bg image, with or without a foreground of its own.
-pub(crate) fn fgbg_image(
-    src: &[u8],
-    dst: &mut [u8],
-    f: Frame,
-    s: State,
-    kind: Kind,
-    n: usize,
-) -> Stepped
-    requires ready { Ready (length dst.old) (frame_of f) s n }
-    requires pos_in_bounds { s.pos ≤ length src.now }
-    requires image { (kind ≡ FgBgImage) ⊎ (kind ≡ SetFgBgImage) }
-    ensures { Executes (frame_of f) src.now dst.old dst.new s result (decode.order_of (frame_of f) (kind_in kind) n) }
-{
-    let d = f.depth.bytes;
-    let p = f.room(s.pixels).fgbg_image(kind, n, src.len() - s.pos);
-    let t = image_foreground(src, d, s, kind);
-    let masks = s.pos + foreground_size(d, kind);
-    s.span(f, p.pixels).paint_masks(src, masks, dst, t.fg_ink());
-    t.finished(p, false)
 }

@@ -134,8 +134,7 @@ impl State {
 
     // The n pixels that come next.
     pub(crate) fn span(self, f: Frame, n: usize) -> Span
-        requires frame { (1 ≤ f.depth.bytes) × (f.depth.bytes ≤ 3) × (1 ≤ f.width) }
-        requires few { self.pixels + n ≤ 67108864 }
+        requires { self.pixels + n ≤ 67108864 }
         ensures { IsSpan f self n result }
     {
         Span {

@@ -3,6 +3,7 @@ use crate::decode::Decoder;
 use crate::frame::Frame;
 use crate::head::read_head;
 use crate::header::Headers;
+use crate::order::Order;
 use crate::plain::order::order;
 use crate::state::{State, Stepped};
 
@@ -34,7 +35,13 @@ impl Decoder for Plain {
                 }
                 Ok(Some(o)) => {
                     t.pos = o.next;
-                    let r = order(src, dst, f, t, o.kind, o.run_length);
+                    let next = Order {
+                        src,
+                        frame: f,
+                        state: t,
+                        run_length: o.run_length,
+                    };
+                    let r = order(dst, next, o.kind);
                     if r.ending.is_err() {
                         return r;
                     }

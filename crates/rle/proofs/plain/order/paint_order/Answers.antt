@@ -1,9 +1,10 @@
 -- `paint_order` meets its contract: each arm paints with the ink of its kinds. Assumes nothing.
 use lib.Seq.{drop-drop}
 use Rattle.definition.specs.Plan.{kind_ink}
+use Rattle.picture.proofs.Pixels.{zeros_of_depth}
 use Rattle.rle.proofs.Painting.{painted-zero, painted_as, read_of_depth}
 use Rattle.rle.proofs.Inks.{inserted-is}
-use Rattle.rle.proofs.Operands.{ready_fg, ready_bg, ready_insert, fg-painted, masks-painted, special_painted, pixel-painted}
+use Rattle.rle.proofs.Operands.{color_depth, own_place, own_fg, own_bg, own_insert, fg-painted, masks-painted, special_painted, pixel-painted}
 use Rattle.rle.proofs.plain.order.paint_order.Goals as goal
 
 pub returns-then-n-eq0 : goal.returns-then-n-eq0
@@ -11,19 +12,34 @@ returns-then-n-eq0 c = painted-zero c.if-n-eq0.true
 
 pub paint_bg_run-requires : goal.paint_bg_run-requires
 paint_bg_run-requires c =
+    let o = c.args.o in
+    let room = c.requires.room in
     let inks = c.row_inks-fg.ensures in
-    record { place = c.requires.fits; insert = ready_insert c.requires inks.0 c.then_some.ensures; bg = ready_bg c.requires inks.1 }
+    record { place = own_place o c.args.n room _ c.requires.place; insert = own_insert o c.args.n room inks.0 c.then_some.ensures; bg = own_bg o c.args.n room inks.1 }
 
 pub paint_run-requires : goal.paint_run-requires
-paint_run-requires c = record { place = c.requires.fits; paintable = ready_fg c.requires c.row_inks-fg.ensures.0 }
+paint_run-requires c =
+    let o = c.args.o in
+    record { place = own_place o c.args.n c.requires.room _ c.requires.place; paintable = own_fg o c.args.n c.requires.room c.row_inks-fg.ensures.0 }
+
+pub paint_masks-requires-clause-bg : goal.paint_masks-requires-clause-bg
+paint_masks-requires-clause-bg c = own_bg c.args.o c.args.n c.requires.room c.row_inks-fg.ensures.1
+
+pub paint_mask-requires-clause-bg : goal.paint_mask-requires-clause-bg
+paint_mask-requires-clause-bg c = own_bg c.args.o c.args.n c.requires.room c.row_inks-fg.ensures.1
+
+pub paint_run-requires-in-White-clause-paintable : goal.paint_run-requires-in-White-clause-paintable
+paint_run-requires-in-White-clause-paintable c =
+    let f = c.args.o.frame in
+    color_depth _ c.in-White.is f.white (rw f.black (zeros_of_depth f.depth.bytes)) c.white_or_black.ensures.white c.white_or_black.ensures.black
 
 pub paint_run-requires-in-ColorRun-clause-paintable : goal.paint_run-requires-in-ColorRun-clause-paintable
-paint_run-requires-in-ColorRun-clause-paintable c = read_of_depth _ c.requires.low c.requires.high c.read_pixel.ensures
+paint_run-requires-in-ColorRun-clause-paintable c = read_of_depth _ c.args.o.frame.low c.args.o.frame.high c.read_pixel.ensures
 
 pub paint_dithered-requires-clause-of_depth : goal.paint_dithered-requires-clause-of_depth
 paint_dithered-requires-clause-of_depth c =
-    let r = c.requires in
-    (read_of_depth _ r.low r.high c.read_pixel-a.ensures, read_of_depth _ r.low r.high c.read_pixel-b.ensures)
+    let f = c.args.o.frame in
+    (read_of_depth _ f.low f.high c.read_pixel-a.ensures, read_of_depth _ f.low f.high c.read_pixel-b.ensures)
 
 pub returns-in-BgRun : goal.returns-in-BgRun
 unfolding kind_ink
@@ -56,7 +72,7 @@ pub returns-in-DitheredRun : goal.returns-in-DitheredRun
 unfolding kind_ink
 returns-in-DitheredRun c =
     let a = c.args in
-    let behind = drop-drop a.f.depth.bytes a.s.pos a.src.now in
+    let behind = drop-drop a.o.frame.depth.bytes a.o.state.pos a.o.src.now in
     rw c.in-DitheredRun.is (rw (c.read_pixel-a.ensures, c.read_pixel-b.ensures, ← behind) at c.paint_dithered.ensures)
 
 pub returns-in-White : goal.returns-in-White

@@ -6,7 +6,7 @@ use lib.ListN.{length}
 use Rattle.rle.specs.States.{first_row_ended}
 use Rattle.rle.proofs.Endings.{fails, completes}
 use Rattle.rle.proofs.FirstRow.{row_ended, insert_ended, row_again, invariant_marked}
-use Rattle.rle.proofs.Stream.{framed, invariant_at, order_read, order-refused, between_start, between_end, between_marked, decodes_refused, between_on}
+use Rattle.rle.proofs.Stream.{invariant_at, order_read, order-refused, between_start, between_end, between_marked, decodes_refused, between_on}
 use Rattle.rle.proofs.plain.decode.PlainDecoder.decode.Goals as goal
 
 pub loop-o-init : goal.loop-o-init
@@ -27,12 +27,28 @@ returns-in-Err c =
     rw (insert_ended c.args.f c.loop-o.s, row_ended c.args.f c.loop-o.s)
     (decodes_refused _ _ _ _ _ marked inside _ _ (order-refused a.f _ _ (first_row_ended a.f l.s) (row_again a.f l.s) at marked.invariant) _ refl)
 
-pub order-r-requires : goal.order-r-requires
-order-r-requires c =
-    let l = c.loop-o in
+pub invariant_of-next-clause-place : goal.invariant_of-next-clause-place
+invariant_of-next-clause-place c =
     let at = rw c.in-Ok-Some.field-0-is at c.in-Ok-Some.ensures in
-    rw (insert_ended c.args.f c.loop-o.s, row_ended c.args.f c.loop-o.s)
-    (record { ready = record { frame = framed c.args.f _ (rw l.invariant.same c.requires); invariant = invariant_at _ (invariant_marked c.args.f l.s l.invariant.invariant); some = at.some; few = at.few }; pos_in_bounds = at.place })
+    at.place
+
+pub invariant_of-next-clause-holds : goal.invariant_of-next-clause-holds
+invariant_of-next-clause-holds c =
+    let l = c.loop-o in
+    rw (insert_ended c.args.f l.s, row_ended c.args.f l.s) (invariant_at _ (invariant_marked c.args.f l.s l.invariant.invariant))
+
+pub invariant_of-next-clause-some : goal.invariant_of-next-clause-some
+invariant_of-next-clause-some c =
+    let at = rw c.in-Ok-Some.field-0-is at c.in-Ok-Some.ensures in
+    at.some
+
+pub invariant_of-next-clause-few : goal.invariant_of-next-clause-few
+invariant_of-next-clause-few c =
+    let at = rw c.in-Ok-Some.field-0-is at c.in-Ok-Some.ensures in
+    at.few
+
+pub order-r-requires : goal.order-r-requires
+order-r-requires c = rw c.loop-o.invariant.same c.requires
 
 pub returns-then-is_err : goal.returns-then-is_err
 returns-then-is_err c =

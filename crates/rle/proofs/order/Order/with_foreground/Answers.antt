@@ -1,7 +1,7 @@
--- `image_foreground` meets its contract: one case for each value of the test. Assumes nothing.
+-- `with_foreground` meets its contract: one case for each value of the test. Assumes nothing.
 use mathlib.Core.Path.{sym, ◌∙◌}
 use Rattle.rle.proofs.Sharing.{foreground_is}
-use Rattle.rle.proofs.image.image_foreground.Goals as goal
+use Rattle.rle.proofs.order.Order.with_foreground.Goals as goal
 
 pub returns-then-sets_foreground : goal.returns-then-sets_foreground
 returns-then-sets_foreground c =

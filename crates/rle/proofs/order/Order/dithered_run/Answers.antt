@@ -9,41 +9,42 @@ use Rattle.definition.specs.Orders.{DitheredRun}
 use Rattle.definition.specs.Decode.{dither_ink}
 use Rattle.definition.specs.Plan.{counts_of, kind_ink, leaves, insert_in, foreground_in}
 use Rattle.rle.proofs.Painting.{painted-zero, painted_as, read_of_depth}
+use Rattle.rle.proofs.Carried.{ready}
 use Rattle.rle.proofs.Orders.{fits, operands-read, pairs_even, executes_finished, few_behind, has_place, next-painted}
-use Rattle.rle.proofs.run.dithered_run.Goals as goal
+use Rattle.rle.proofs.order.Order.dithered_run.Goals as goal
 
 pub finished-requires : goal.finished-requires
 unfolding counts_of
 finished-requires c =
-    fits c.requires.ready DitheredRun _ c.dithered_run-p.result (rw (c.room.ensures.0, c.room.ensures.1) at c.dithered_run-p.ensures) (omega arith)
+    fits (ready c.args.self _ c.requires) DitheredRun _ c.dithered_run-p.result (rw (c.room.ensures.0, c.room.ensures.1) at c.dithered_run-p.ensures) (omega arith)
 
 pub returns-then-p-eq0 : goal.returns-then-p-eq0
 unfolding counts_of foreground_in insert_in kind_ink leaves
 returns-then-p-eq0 c =
-    executes_finished _ _ _ c.requires.ready c.requires.pos_in_bounds DitheredRun c.dithered_run-p.result (rw (c.room.ensures.0, c.room.ensures.1) at c.dithered_run-p.ensures) (record { state = refl; insert = refl }) c.finished.ensures
+    executes_finished _ _ _ (ready c.args.self _ c.requires) c.args.self.place DitheredRun c.dithered_run-p.result (rw (c.room.ensures.0, c.room.ensures.1) at c.dithered_run-p.ensures) (record { state = refl; insert = refl }) c.finished.ensures
     (painted-zero c.if-p-eq0.true)
 
 pub read_pixel-a-requires : goal.read_pixel-a-requires
 unfolding counts_of
 read_pixel-a-requires c =
-    (c.requires.ready.frame.low, c.requires.ready.frame.high, omega (arith, operands-read _ c.dithered_run-p.result _ _ (rw (c.room.ensures.0, c.room.ensures.1) at c.dithered_run-p.ensures) (omega arith)))
+    (c.args.self.frame.low, c.args.self.frame.high, omega (arith, operands-read _ c.dithered_run-p.result _ _ (rw (c.room.ensures.0, c.room.ensures.1) at c.dithered_run-p.ensures) (omega arith)))
 
 pub read_pixel-b-requires : goal.read_pixel-b-requires
 unfolding counts_of
 read_pixel-b-requires c =
-    (c.requires.ready.frame.low, c.requires.ready.frame.high, omega (arith, operands-read _ c.dithered_run-p.result _ _ (rw (c.room.ensures.0, c.room.ensures.1) at c.dithered_run-p.ensures) (omega arith)))
+    (c.args.self.frame.low, c.args.self.frame.high, omega (arith, operands-read _ c.dithered_run-p.result _ _ (rw (c.room.ensures.0, c.room.ensures.1) at c.dithered_run-p.ensures) (omega arith)))
 
-pub span-requires-clause-few : goal.span-requires-clause-few
+pub span-requires : goal.span-requires
 unfolding counts_of
-span-requires-clause-few c = few_behind c.args.f c.args.dst.now c.requires.ready DitheredRun _ c.dithered_run-p.result (rw (c.room.ensures.0, c.room.ensures.1) at c.dithered_run-p.ensures)
+span-requires c = few_behind c.args.self.frame c.args.dst.now (ready c.args.self _ c.requires) DitheredRun _ c.dithered_run-p.result (rw (c.room.ensures.0, c.room.ensures.1) at c.dithered_run-p.ensures)
 
 pub paint_dithered-requires : goal.paint_dithered-requires
 unfolding counts_of
 paint_dithered-requires c =
-    let frame = c.requires.ready.frame in
+    let frame = c.args.self.frame in
     let is = c.span.ensures in
     record {
-      place = has_place c.args.f c.args.dst.now c.requires.ready DitheredRun _ c.dithered_run-p.result (rw (c.room.ensures.0, c.room.ensures.1) at c.dithered_run-p.ensures) is;
+      place = has_place c.args.self.frame c.args.dst.now (ready c.args.self _ c.requires) DitheredRun _ c.dithered_run-p.result (rw (c.room.ensures.0, c.room.ensures.1) at c.dithered_run-p.ensures) is;
       even = rw is.pixels (pairs_even _ c.dithered_run-p.result _ _ _ _ (rw (c.room.ensures.0, c.room.ensures.1) at c.dithered_run-p.ensures));
       of_depth =
           rw is.bytes
@@ -53,12 +54,12 @@ paint_dithered-requires c =
 pub finished-requires-2 : goal.finished-requires-2
 unfolding counts_of
 finished-requires-2 c =
-    fits c.requires.ready DitheredRun _ c.dithered_run-p.result (rw (c.room.ensures.0, c.room.ensures.1) at c.dithered_run-p.ensures) (omega arith)
+    fits (ready c.args.self _ c.requires) DitheredRun _ c.dithered_run-p.result (rw (c.room.ensures.0, c.room.ensures.1) at c.dithered_run-p.ensures) (omega arith)
 
 pub returns : goal.returns
 unfolding counts_of foreground_in insert_in kind_ink leaves
 returns c =
     let first = c.read_pixel-a.ensures in
-    let second = c.read_pixel-b.ensures ∙ ap (λ (l : List ℕ). first_pixel c.args.f.depth.bytes l) (sym (drop-drop c.args.f.depth.bytes c.args.s.pos c.args.src.now)) in
-    executes_finished _ _ _ c.requires.ready c.requires.pos_in_bounds DitheredRun c.dithered_run-p.result (rw (c.room.ensures.0, c.room.ensures.1) at c.dithered_run-p.ensures) (record { state = refl; insert = refl }) c.finished-2.ensures
+    let second = c.read_pixel-b.ensures ∙ ap (λ (l : List ℕ). first_pixel c.args.self.frame.depth.bytes l) (sym (drop-drop c.args.self.frame.depth.bytes c.args.self.state.pos c.args.self.src.now)) in
+    executes_finished _ _ _ (ready c.args.self _ c.requires) c.args.self.place DitheredRun c.dithered_run-p.result (rw (c.room.ensures.0, c.room.ensures.1) at c.dithered_run-p.ensures) (record { state = refl; insert = refl }) c.finished-2.ensures
     (painted_as (λ j _ h. dither_ink (first h) (second h) j) (next-painted c.span.ensures c.paint_dithered.ensures))
