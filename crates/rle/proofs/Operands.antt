@@ -174,7 +174,7 @@ module _ (o : Order) (dst : List ℕ) (c : CodeKind) {own : Pixel}
       → CarriesOut o (kind_in c) dst after r
   executes_painted is painted =
       let state = ap (λ (x : Pixel). with_fg o.state x) is-own in
-      executes_finished o.src.now dst _ (ready o _ fits) o.place (kind_in c) p plans (record { state = state; insert = refl }) is
+      executes_finished o.src.now dst _ (ready o _ fits) o.place (kind_in c) p plans state is
       (painted_as
       (λ j _. (λ h. kind_ink (frame_of o.frame) (kind_in c) o.state.insert (fg-is o.state state refl h) (bg-is {p = own} o.frame o.state refl refl h) (drop o.state.pos o.src.now) j)
       ∙ insert_only (frame_of o.frame) (kind_in c) o.state.insert _ _ (drop o.state.pos o.src.now) j)

@@ -1,7 +1,6 @@
 -- Laws of orders: an order that is planned, and whose pixels are painted as planned, is the definition's. Assumes nothing.
 use mathlib.Core.Path.{◌≡◌, refl, ap, sym, ◌∙◌, subst}
 use mathlib.Core.List.{List}
-use mathlib.Core.Bool.{Bool}
 use Prim.Native.Nat.{ℕ, ◌+◌, ◌*◌, ◌-◌, ◌%◌, ◌≤◌, ◌<◌}
 use native.Mathlib.Nat.{mul-le-mul_right}
 use native.Mathlib.Omega.{arith}
@@ -76,12 +75,6 @@ module _ (a : ℕ) (p : CodePlan) where
   pub pairs_even : (d D n R : ℕ) → counts_in p ≡ with_operands d a (run_counts D (n * 2) R) → p.pixels % 2 ≡ 0
   pairs_even d D n R e = subst (λ (x : Counts). x.pixels % 2 ≡ 0) (sym e) (pairs_read d D n a R)
 
--- t and i: the state but for what is read and painted, and the insert, that an order of kind k leaves, with the bytes xs from its
--- operands on
-pub record Leaves (D : ℕ) (k : Kind) (s : CodeState) (xs : List ℕ) (t : CodeState) (i : Bool) : Type 0 where
-  pub state : t ≡ with_fg s (foreground_by D k s.foreground xs)
-  pub insert : i ≡ leaves_insert k
-
 module _ {f : Frame} (src before after : List ℕ) {s : CodeState} {n : ℕ} (ready : Ready (length before) f s n) (place : s.pos ≤ length src)
     (k : Kind) (p : CodePlan) (plans : counts_in p ≡ counts_of f.bytes k n (length src - s.pos) (f.total - s.pixels)) where
   abbrev S : State
@@ -125,8 +118,9 @@ module _ {f : Frame} (src before after : List ℕ) {s : CodeState} {n : ℕ} (re
             };
       }
 
-  pub executes_finished : {t : CodeState} {i : Bool} {r : Stepped} → Leaves f.bytes k s (drop s.pos src) t i → r ≡ finished_of t p i
+  -- t: the state with the foreground that the order leaves
+  pub executes_finished : {t : CodeState} {r : Stepped} → t ≡ with_fg s foreground → r ≡ finished_of t p (leaves_insert k)
       → Painted f.bytes f.width (ink_by f k S) s.pixels p.pixels before after → Executes f src before after s r (order_of f k n)
   executes_finished {r = r} left is painted =
-      let e : r ≡ finished_of (with_fg s foreground) p (leaves_insert k) = is ∙ (λ j. finished_of (left.state j) p (left.insert j)) in
+      let e : r ≡ finished_of (with_fg s foreground) p (leaves_insert k) = is ∙ ap (λ (t : CodeState). finished_of t p (leaves_insert k)) left in
       rw e (executes_planned painted)

@@ -1,16 +1,14 @@
 // Orders that paint images. Each plans the order, paints the pixels that the plan says, and ends as the plan says.
-ghost use Rattle.std.specs.Prelude.{◌≡◌, ◌⊎◌, drop};
+ghost use Rattle.std.specs.Prelude.{◌≡◌, ◌⊎◌};
 ghost use Rattle.definition.specs.Orders as orders;
-ghost use Rattle.definition.specs.Plan as plan;
 ghost use Rattle.rle.specs.Kinds.{kind_in};
 ghost use Rattle.rle.specs.declared.kind.Kind.TheVariants.{FgBgImage, SetFgBgImage, SpecialFgBg1, SpecialFgBg2};
-ghost use Rattle.rle.specs.States.{with_fg};
 ghost use Rattle.rle.specs.Carrying.{HasPicture, CarriesOut};
 
 use crate::kind::Kind;
 use crate::order::Order;
 use crate::plan::foreground_size;
-use crate::state::{State, Stepped};
+use crate::state::Stepped;
 
 impl<'a> Order<'a> {
     pub(crate) fn color_image(self, dst: &mut [u8]) -> Stepped
@@ -21,11 +19,11 @@ impl<'a> Order<'a> {
         let left = self.src.len() - s.pos;
         let p = self.frame.room(s.pixels).color_image(self.run_length, left);
         if p.pixels == 0 {
-            return s.finished(p, false);
+            return s.finished(p, Kind::ColorImage);
         }
         s.span(self.frame, p.pixels)
             .paint_image(self.src, s.pos, dst);
-        s.finished(p, false)
+        s.finished(p, Kind::ColorImage)
     }
 
     pub(crate) fn special_fgbg(self, dst: &mut [u8], kind: Kind) -> Stepped
@@ -39,17 +37,7 @@ impl<'a> Order<'a> {
         let masks = [special_mask(kind)];
         s.span(self.frame, p.pixels)
             .paint_whole_masks(&masks, 0, dst, s.fg_ink());
-        s.finished(p, false)
-    }
-
-    // The state with the foreground that an order of this kind reads, if it does and its bytes are there.
-    pub(crate) fn with_foreground(self, kind: Kind) -> State
-        ensures { result ≡ with_fg self.entry.state (plan.foreground_by self.entry.frame.depth.bytes (kind_in kind) self.entry.state.foreground (drop self.entry.state.pos self.entry.src.now)) }
-    {
-        if kind.sets_foreground() {
-            return self.state.new_foreground(self.src, self.frame.depth.bytes);
-        }
-        self.state
+        s.finished(p, kind)
     }
 
     // An fg/bg image, with or without a foreground of its own.
@@ -68,7 +56,7 @@ impl<'a> Order<'a> {
         let masks = s.pos + foreground_size(self.frame.depth.bytes, kind);
         s.span(self.frame, p.pixels)
             .paint_masks(self.src, masks, dst, t.fg_ink());
-        t.finished(p, false)
+        t.finished(p, kind)
     }
 }
 

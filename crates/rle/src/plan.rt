@@ -8,7 +8,7 @@ ghost use Rattle.picture.specs.Sizes.{refusal};
 ghost use Rattle.definition.specs.Plan as plan;
 ghost use Rattle.rle.specs.Kinds.{kind_in, sets_foreground};
 ghost use Rattle.rle.specs.Planning.{counts_in};
-ghost use Rattle.rle.specs.declared.kind.Kind.TheVariants.{FgBgImage, SetFgBgImage, White, Black, NoOrder};
+ghost use Rattle.rle.specs.declared.kind.Kind.TheVariants.{FgRun, FgBgImage, SetFgRun, SetFgBgImage, White, Black, NoOrder};
 
 use crate::kind::Kind;
 use picture::RleError;
@@ -106,6 +106,15 @@ impl Room {
         ensures { counts_in result ≡ plan.run_counts self.bytes n self.pixels }
     {
         self.pixels_behind(n, 0)
+    }
+
+    // A foreground run, with or without a foreground of its own.
+    pub(crate) fn fg_run(self, kind: Kind, n: usize, left: usize) -> Plan
+        requires few { n ≤ 65536 }
+        requires run { (kind ≡ FgRun) ⊎ (kind ≡ SetFgRun) }
+        ensures { counts_in result ≡ plan.counts_of self.bytes (kind_in kind) n left self.pixels }
+    {
+        self.with_operands(n, left, foreground_size(self.bytes, kind))
     }
 
     // A color or set-foreground run: one pixel is its operand.

@@ -5,7 +5,7 @@
 ghost use Rattle.std.specs.Prelude.{◌≡◌, ◌⊎◌};
 ghost use Rattle.definition.specs.Orders as orders;
 ghost use Rattle.rle.specs.Kinds.{kind_in};
-ghost use Rattle.rle.specs.declared.kind.Kind.TheVariants.{White, Black, NoOrder};
+ghost use Rattle.rle.specs.declared.kind.Kind.TheVariants.{FgRun, SetFgRun, White, Black, NoOrder};
 ghost use Rattle.rle.specs.Carrying.{HasPicture, CarriesOut};
 
 use crate::frame::Frame;
@@ -24,29 +24,24 @@ impl<'a> Order<'a> {
         let p = self.frame.room(s.pixels).run(self.run_length);
         let span = s.span(self.frame, p.pixels);
         span.paint_bg_run(dst, s.insert_ink(), s.bg_ink(self.frame));
-        s.finished(p, true)
+        s.finished(p, Kind::BgRun)
     }
 
-    pub(crate) fn fg_run(self, dst: &mut [u8]) -> Stepped
-        requires { HasPicture self dst.old }
-        ensures { CarriesOut self.entry orders.Kind.FgRun dst.old dst.new result }
-    {
-        let s = self.state;
-        let p = self.frame.room(s.pixels).run(self.run_length);
-        s.span(self.frame, p.pixels).paint_fg_run(dst, s.fg_ink());
-        s.finished(p, false)
-    }
-
-    pub(crate) fn set_fg_run(self, dst: &mut [u8]) -> Stepped
-        requires { HasPicture self dst.old }
-        ensures { CarriesOut self.entry orders.Kind.SetFgRun dst.old dst.new result }
+    // A foreground run, with or without a foreground of its own.
+    pub(crate) fn fg_run(self, dst: &mut [u8], kind: Kind) -> Stepped
+        requires place { HasPicture self dst.old }
+        requires run { (kind ≡ FgRun) ⊎ (kind ≡ SetFgRun) }
+        ensures { CarriesOut self.entry (kind_in kind) dst.old dst.new result }
     {
         let s = self.state;
         let left = self.src.len() - s.pos;
-        let p = self.frame.room(s.pixels).pixel_run(self.run_length, left);
-        let t = s.new_foreground(self.src, self.frame.depth.bytes);
+        let p = self
+            .frame
+            .room(s.pixels)
+            .fg_run(kind, self.run_length, left);
+        let t = self.with_foreground(kind);
         s.span(self.frame, p.pixels).paint_fg_run(dst, t.fg_ink());
-        t.finished(p, false)
+        t.finished(p, kind)
     }
 
     pub(crate) fn color_run(self, dst: &mut [u8]) -> Stepped
@@ -57,12 +52,12 @@ impl<'a> Order<'a> {
         let left = self.src.len() - s.pos;
         let p = self.frame.room(s.pixels).pixel_run(self.run_length, left);
         if p.pixels == 0 {
-            return s.finished(p, false);
+            return s.finished(p, Kind::ColorRun);
         }
         let color = read_pixel(self.src, self.frame.depth.bytes, s.pos);
         s.span(self.frame, p.pixels)
             .paint_run(dst, Ink::Solid(color));
-        s.finished(p, false)
+        s.finished(p, Kind::ColorRun)
     }
 
     pub(crate) fn dithered_run(self, dst: &mut [u8]) -> Stepped
@@ -77,12 +72,12 @@ impl<'a> Order<'a> {
             .room(s.pixels)
             .dithered_run(self.run_length, left);
         if p.pixels == 0 {
-            return s.finished(p, false);
+            return s.finished(p, Kind::DitheredRun);
         }
         let a = read_pixel(self.src, d, s.pos);
         let b = read_pixel(self.src, d, s.pos + d);
         s.span(self.frame, p.pixels).paint_dithered(dst, a, b);
-        s.finished(p, false)
+        s.finished(p, Kind::DitheredRun)
     }
 
     // One white or black pixel, or no order. One function for them: as arms of a jump they would be mispredicted half the time.
@@ -96,7 +91,7 @@ impl<'a> Order<'a> {
         let p = self.frame.room(s.pixels).pixel(kind);
         s.span(self.frame, p.pixels)
             .paint_single(dst, white_or_black(self.frame, kind));
-        s.finished(p, false)
+        s.finished(p, kind)
     }
 }
 

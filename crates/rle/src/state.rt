@@ -1,11 +1,12 @@
 // The decoder's state, and what its orders paint with.
-ghost use Rattle.std.specs.Prelude.{◌≡◌, ◌+◌, ◌-◌, ◌≤◌, length, drop};
-ghost use Rattle.definition.specs.Plan as plan;
-ghost use Rattle.rle.specs.States.{fg_of, bg_of, insert_of, with_fg, IsSpan, start_of, at_pos, completed_in, refused_in, first_row_ended, Fits, finished_of};
+ghost use Rattle.std.specs.Prelude.{◌≡◌, ◌+◌, ◌≤◌};
+ghost use Rattle.definition.specs.Plan.{leaves_insert};
+ghost use Rattle.rle.specs.Kinds.{kind_in};
+ghost use Rattle.rle.specs.States.{fg_of, bg_of, insert_of, IsSpan, start_of, at_pos, completed_in, refused_in, first_row_ended, Fits, finished_of};
 
-pub(crate) use crate::frame::Frame;
+use crate::frame::Frame;
+use crate::kind::Kind;
 use crate::paint::Ink;
-use crate::pixel::read_pixel;
 use crate::plan::Plan;
 use crate::span::Span;
 use picture::RleError;
@@ -85,16 +86,16 @@ impl State {
         self
     }
 
-    // The state behind an order that is carried out as planned, and leaves an insert pending or not.
-    pub(crate) fn finished(self, p: Plan, insert: bool) -> Stepped
+    // The state behind an order of this kind that is carried out as planned.
+    pub(crate) fn finished(self, p: Plan, kind: Kind) -> Stepped
         requires { Fits self p }
-        ensures { result ≡ finished_of self p insert }
+        ensures { result ≡ finished_of self p (leaves_insert (kind_in kind)) }
     {
         let mut t = self;
         t.pos = self.pos + p.read;
         t.pixels = self.pixels + p.pixels;
         if p.ending.is_ok() {
-            t.insert = insert;
+            t.insert = kind.leaves_insert();
             t.orders = self.orders + 1;
         }
         Stepped {
@@ -143,17 +144,5 @@ impl State {
             start: self.pixels,
             pixels: n,
         }
-    }
-
-    // The state with the foreground that stands next in the stream, where its bytes are there.
-    pub(crate) fn new_foreground(mut self, src: &[u8], d: usize) -> Self
-        requires { (1 ≤ d) × (d ≤ 3) × (self.pos ≤ length src.now) }
-        ensures { result ≡ with_fg self (plan.new_foreground d self.foreground (drop self.pos src.now)) }
-    {
-        if d <= src.len() - self.pos {
-            let p = read_pixel(src, d, self.pos);
-            self.foreground = p;
-        }
-        self
     }
 }

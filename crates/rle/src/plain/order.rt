@@ -7,6 +7,7 @@ ghost use Rattle.rle.specs.States.{frame_of, fg_of, bg_of};
 ghost use Rattle.rle.specs.Carrying.{HasPicture, CarriesOut};
 ghost use Rattle.rle.specs.Operands.{HasOperands};
 
+use crate::frame::Frame;
 use crate::image::special_mask;
 use crate::kind::Kind;
 use crate::order::Order;
@@ -18,7 +19,7 @@ use crate::plain::paint::{
 use crate::plan::foreground_size;
 use crate::run::white_or_black;
 use crate::span::Span;
-use crate::state::{Frame, State, Stepped};
+use crate::state::{State, Stepped};
 
 // The foreground that the order leaves: the one that stands first in its operands, if it reads one and its bytes are there, else the
 // state's.

@@ -30,5 +30,5 @@ finished-requires c = fits (ready c.args.self _ c.requires) BgRun 0 c.run-p.resu
 pub returns : goal.returns
 unfolding counts_of foreground_in insert_in kind_ink leaves
 returns c =
-    executes_finished _ _ _ (ready c.args.self _ c.requires) c.args.self.place BgRun c.run-p.result (rw (c.room.ensures.0, c.room.ensures.1) at c.run-p.ensures) (record { state = refl; insert = refl }) c.finished.ensures
+    executes_finished _ _ _ (ready c.args.self _ c.requires) c.args.self.place BgRun c.run-p.result (rw (c.room.ensures.0, c.room.ensures.1) at c.run-p.ensures) refl c.finished.ensures
     (painted_as (λ j _. insert-is c.args.self.frame c.args.self.state c.insert_ink.ensures c.bg_ink.ensures j) (next-painted c.span-span.ensures c.paint_bg_run.ensures))

@@ -16,7 +16,7 @@ finished-requires c =
 pub returns-then-p-eq0 : goal.returns-then-p-eq0
 unfolding counts_of foreground_in insert_in kind_ink leaves
 returns-then-p-eq0 c =
-    executes_finished _ _ _ (ready c.args.self _ c.requires) c.args.self.place ColorImage c.color_image-p.result (rw (c.room.ensures.0, c.room.ensures.1) at c.color_image-p.ensures) (record { state = refl; insert = refl }) c.finished.ensures
+    executes_finished _ _ _ (ready c.args.self _ c.requires) c.args.self.place ColorImage c.color_image-p.result (rw (c.room.ensures.0, c.room.ensures.1) at c.color_image-p.ensures) refl c.finished.ensures
     (painted-zero c.if-p-eq0.true)
 
 pub span-requires : goal.span-requires
@@ -40,5 +40,5 @@ finished-requires-2 c =
 pub returns : goal.returns
 unfolding counts_of foreground_in insert_in kind_ink leaves
 returns c =
-    executes_finished _ _ _ (ready c.args.self _ c.requires) c.args.self.place ColorImage c.color_image-p.result (rw (c.room.ensures.0, c.room.ensures.1) at c.color_image-p.ensures) (record { state = refl; insert = refl }) c.finished-2.ensures
+    executes_finished _ _ _ (ready c.args.self _ c.requires) c.args.self.place ColorImage c.color_image-p.result (rw (c.room.ensures.0, c.room.ensures.1) at c.color_image-p.ensures) refl c.finished-2.ensures
     (rw c.span.ensures.bytes at (next-painted c.span.ensures c.paint_image.ensures))

@@ -17,7 +17,7 @@ finished-requires c =
 pub returns-then-p-eq0 : goal.returns-then-p-eq0
 unfolding counts_of foreground_in insert_in kind_ink leaves
 returns-then-p-eq0 c =
-    executes_finished _ _ _ (ready c.args.self _ c.requires) c.args.self.place ColorRun c.pixel_run-p.result (rw (c.room.ensures.0, c.room.ensures.1) at c.pixel_run-p.ensures) (record { state = refl; insert = refl }) c.finished.ensures
+    executes_finished _ _ _ (ready c.args.self _ c.requires) c.args.self.place ColorRun c.pixel_run-p.result (rw (c.room.ensures.0, c.room.ensures.1) at c.pixel_run-p.ensures) refl c.finished.ensures
     (painted-zero c.if-p-eq0.true)
 
 pub read_pixel-color-requires : goal.read_pixel-color-requires
@@ -46,5 +46,5 @@ finished-requires-2 c =
 pub returns : goal.returns
 unfolding counts_of foreground_in insert_in kind_ink leaves
 returns c =
-    executes_finished _ _ _ (ready c.args.self _ c.requires) c.args.self.place ColorRun c.pixel_run-p.result (rw (c.room.ensures.0, c.room.ensures.1) at c.pixel_run-p.ensures) (record { state = refl; insert = refl }) c.finished-2.ensures
+    executes_finished _ _ _ (ready c.args.self _ c.requires) c.args.self.place ColorRun c.pixel_run-p.result (rw (c.room.ensures.0, c.room.ensures.1) at c.pixel_run-p.ensures) refl c.finished-2.ensures
     (painted_as (λ _ _. ap solid c.read_pixel-color.ensures) (next-painted c.span.ensures c.paint_run.ensures))

@@ -21,7 +21,7 @@ finished-requires c =
 pub returns-then-p-eq0 : goal.returns-then-p-eq0
 unfolding counts_of foreground_in insert_in kind_ink leaves
 returns-then-p-eq0 c =
-    executes_finished _ _ _ (ready c.args.self _ c.requires) c.args.self.place DitheredRun c.dithered_run-p.result (rw (c.room.ensures.0, c.room.ensures.1) at c.dithered_run-p.ensures) (record { state = refl; insert = refl }) c.finished.ensures
+    executes_finished _ _ _ (ready c.args.self _ c.requires) c.args.self.place DitheredRun c.dithered_run-p.result (rw (c.room.ensures.0, c.room.ensures.1) at c.dithered_run-p.ensures) refl c.finished.ensures
     (painted-zero c.if-p-eq0.true)
 
 pub read_pixel-a-requires : goal.read_pixel-a-requires
@@ -61,5 +61,5 @@ unfolding counts_of foreground_in insert_in kind_ink leaves
 returns c =
     let first = c.read_pixel-a.ensures in
     let second = c.read_pixel-b.ensures ∙ ap (λ (l : List ℕ). first_pixel c.args.self.frame.depth.bytes l) (sym (drop-drop c.args.self.frame.depth.bytes c.args.self.state.pos c.args.self.src.now)) in
-    executes_finished _ _ _ (ready c.args.self _ c.requires) c.args.self.place DitheredRun c.dithered_run-p.result (rw (c.room.ensures.0, c.room.ensures.1) at c.dithered_run-p.ensures) (record { state = refl; insert = refl }) c.finished-2.ensures
+    executes_finished _ _ _ (ready c.args.self _ c.requires) c.args.self.place DitheredRun c.dithered_run-p.result (rw (c.room.ensures.0, c.room.ensures.1) at c.dithered_run-p.ensures) refl c.finished-2.ensures
     (painted_as (λ j _ h. dither_ink (first h) (second h) j) (next-painted c.span.ensures c.paint_dithered.ensures))

@@ -45,5 +45,5 @@ returns c =
     let k = image_is c.requires.image in
     rw k
     (image_executes a.self.frame a.self.src.now a.dst.now a.self.state (sets_foreground a.kind) (rw k at c.with_foreground-t.ensures) c.fg_ink.ensures c.foreground_size.ensures
-    (ready c.args.self _ c.requires.place) c.fgbg_image-p.result (rw (c.room.ensures.0, c.room.ensures.1, k) at c.fgbg_image-p.ensures) c.args.self.place c.finished.ensures
+    (ready c.args.self _ c.requires.place) c.fgbg_image-p.result (rw (c.room.ensures.0, c.room.ensures.1, k) at c.fgbg_image-p.ensures) c.args.self.place (rw k at c.finished.ensures)
     (next-painted c.span.ensures c.paint_masks.ensures))
