@@ -104,63 +104,61 @@ module _ (span : Span) (xs part : List ℕ) (place : HasPlace span xs) where
       (sym (own_run (turn (pair_of D p q) (2 * D)) (pairs * 2 * D) (pixels_there D 0 (pairs * 2) own) em holds e))
       (dither_painted D w k n xs span.low span.high place p q of of')
 
--- `len` bytes from place `at` on, in a part that has the bytes from `row` places back on too
-module _ (at row : ℕ) (xs part : List ℕ) where
-  module _ (len : ℕ) (back : row ≤ at) (fits : at + len ≤ length xs) where
+  -- in a part that has the row above too
+  module _ (row : HasAbove span) where
     abbrev begin : ℕ
-    begin = at - row
+    begin = k * D - w * D
 
     abbrev extent : ℕ
-    extent = at + len - (at - row)
+    extent = k * D + n * D - (k * D - w * D)
 
     abbrev both-rows : List ℕ
     both-rows = take extent (drop begin xs)
 
-    there_too : row + len ≤ length both-rows
-    there_too = omega (arith, length_part begin extent xs (omega arith))
+    back : w * D ≤ k * D
+    back = mul-le-mul_right {m = w} {n = k} D row
 
-    own_row : leb row row ≡ true
-    own_row = le-leb row row (le_refl row)
+    within : begin + extent ≤ length xs
+    within = omega (arith, place, back)
+
+    there_too : w * D + n * D ≤ length both-rows
+    there_too = omega (arith, back, length_part begin extent xs within)
+
+    own_row : leb (w * D) (w * D) ≡ true
+    own_row = le-leb (w * D) (w * D) (le_refl (w * D))
 
     -- bytes made of those a row back
     rows_run : (g : ℕ → ℕ → ℕ) (test : Bool) → test ≡ true
-        → part ≡ run_where test (λ (x : List ℕ) (j : ℕ). g (get_or x (row + j - row) 0) j) row len both-rows
-        → put_back begin extent xs part ≡ run (λ (x : List ℕ) (j : ℕ). g (get_or x (at + j - row) 0) j) at len xs
+        → part ≡ run_where test (λ (x : List ℕ) (j : ℕ). g (get_or x (w * D + j - w * D) 0) j) (w * D) (n * D) both-rows
+        → put_back begin extent xs part ≡ run (λ (x : List ℕ) (j : ℕ). g (get_or x (k * D + j - w * D) 0) j) (k * D) (n * D) xs
     rows_run g test holds e =
-        let is : at - row + row ≡ at = omega arith in
-        in_part (λ (x : List ℕ) (j : ℕ). g (get_or x (row + j - row) 0) j) (λ (x : List ℕ) (j : ℕ). g (get_or x (at + j - row) 0) j)
-        begin extent row len xs part holds (omega arith) (omega arith)
+        let at : k * D - w * D + w * D ≡ k * D = omega (arith, back) in
+        in_part (λ (x : List ℕ) (j : ℕ). g (get_or x (w * D + j - w * D) 0) j) (λ (x : List ℕ) (j : ℕ). g (get_or x (k * D + j - w * D) 0) j)
+        begin extent (w * D) (n * D) xs part holds within (omega (arith, back))
         (λ x j h.
-        let i : begin + (row + j - row) ≡ at + j - row = omega arith in
+        let i : begin + (w * D + j - w * D) ≡ k * D + j - w * D = omega (arith, back) in
         ap (λ (b : ℕ). g b j)
-        (get_or-take extent (drop begin x) (row + j - row) 0 (omega arith) ∙ get_or-drop begin x (row + j - row) 0 ∙ ap (λ (a : ℕ). get_or x a 0) i))
+        (get_or-take extent (drop begin x) (w * D + j - w * D) 0 (omega (arith, back)) ∙ get_or-drop begin x (w * D + j - w * D) 0 ∙ ap (λ (a : ℕ). get_or x a 0) i))
         e
-        ∙ ap (λ (a : ℕ). run (λ (x : List ℕ) (j : ℕ). g (get_or x (at + j - row) 0) j) a len xs) is
+        ∙ ap (λ (a : ℕ). run (λ (x : List ℕ) (j : ℕ). g (get_or x (k * D + j - w * D) 0) j) a (n * D) xs) at
 
-    part_back : part ≡ run_where (both (leb row row) (there row len both-rows)) (runs.above row row) row len both-rows
-        → put_back begin extent xs part ≡ run (runs.above at row) at len xs
-    part_back e = rows_run (λ (b j : ℕ). b) (both (leb row row) (there row len both-rows)) (both_hold _ _ own_row (is-there row len both-rows there_too)) e
+    pub part_above : part ≡ run_where (both (leb (w * D) (w * D)) (there (w * D) (n * D) both-rows)) (runs.above (w * D) (w * D)) (w * D) (n * D) both-rows
+        → Painted D w (λ _. above) k n xs (put_back begin extent xs part)
+    part_above e =
+        let holds : both (leb (w * D) (w * D)) (there (w * D) (n * D) both-rows) ≡ true = both_hold _ _ own_row (is-there (w * D) (n * D) both-rows there_too) in
+        subst (λ (ys : List ℕ). Painted D w (λ _. above) k n xs ys)
+        (sym (rows_run (λ (b j : ℕ). b) (both (leb (w * D) (w * D)) (there (w * D) (n * D) both-rows)) holds e))
+        (back-painted D w k n xs span.low span.high place span.wide row)
 
-  pub part_mixed : (d n : ℕ) → 1 ≤ d → d ≤ 3 → (back : row ≤ at) (fits : at + n * d ≤ length xs) (p : Pixel)
-      → part ≡ run_where (both (leb row row) (pixels_there d row n (both-rows (n * d) back fits))) (xored row row (turn p d)) row (n * d) (both-rows (n * d) back fits)
-      → put_back (begin (n * d) back fits) (extent (n * d) back fits) xs part ≡ run (xored at row (turn p d)) at (n * d) xs
-  part_mixed d n low high back fits p e =
-      let holds : both (leb row row) (pixels_there d row n (both-rows (n * d) back fits)) ≡ true =
-      both_hold _ _ (own_row (n * d) back fits) (pixels-there d row n (both-rows (n * d) back fits) low high (there_too (n * d) back fits)) in
-      rows_run (n * d) back fits (λ (b j : ℕ). bit_xor b (turn p d j)) (both (leb row row) (pixels_there d row n (both-rows (n * d) back fits))) holds e
-
--- the pixels of a span, in a part that has the row above too
-pub part_above : (span : Span) (xs part : List ℕ) → HasPlace span xs → HasAbove span
-    → part ≡ run_where
-    (both (leb (span.width * span.bytes) (span.width * span.bytes)) (there (span.width * span.bytes) (span.pixels * span.bytes) (take (span.start * span.bytes + span.pixels * span.bytes - (span.start * span.bytes - span.width * span.bytes)) (drop (span.start * span.bytes - span.width * span.bytes) xs))))
-    (runs.above (span.width * span.bytes) (span.width * span.bytes)) (span.width * span.bytes) (span.pixels * span.bytes)
-    (take (span.start * span.bytes + span.pixels * span.bytes - (span.start * span.bytes - span.width * span.bytes)) (drop (span.start * span.bytes - span.width * span.bytes) xs))
-    → Paints span (λ _. above) xs (put_back (span.start * span.bytes - span.width * span.bytes) (span.start * span.bytes + span.pixels * span.bytes - (span.start * span.bytes - span.width * span.bytes)) xs part)
-part_above span xs part place row e =
-    subst (λ (ys : List ℕ). Paints span (λ _. above) xs ys)
-    (sym (part_back (span.start * span.bytes) (span.width * span.bytes) xs part (span.pixels * span.bytes)
-    (mul-le-mul_right {m = span.width} {n = span.start} span.bytes row) (omega (arith, place)) e))
-    (back-painted span.bytes span.width span.start span.pixels xs span.low span.high place span.wide row)
+    pub part_xored : (p : Pixel) → OfDepth D p
+        → part ≡ run_where (both (leb (w * D) (w * D)) (pixels_there D (w * D) n both-rows)) (xored (w * D) (w * D) (turn p D)) (w * D) (n * D) both-rows
+        → Painted D w (λ _. above_xor p) k n xs (put_back begin extent xs part)
+    part_xored p of e =
+        let holds : both (leb (w * D) (w * D)) (pixels_there D (w * D) n both-rows) ≡ true =
+        both_hold _ _ own_row (pixels-there D (w * D) n both-rows span.low span.high there_too) in
+        subst (λ (ys : List ℕ). Painted D w (λ _. above_xor p) k n xs ys)
+        (sym (rows_run (λ (b j : ℕ). bit_xor b (turn p D j)) (both (leb (w * D) (w * D)) (pixels_there D (w * D) n both-rows)) holds e))
+        (xor_painted D w k n xs span.low span.high place span.wide row p of)
 
 -- ---- masks
 

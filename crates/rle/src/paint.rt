@@ -6,9 +6,7 @@ ghost use Rattle.std.specs.Prelude.{◌≡◌, ◌+◌, ◌-◌, ◌*◌, ◌/�
 ghost use Rattle.picture.specs.Pixels.{pixel_at, OfDepth};
 ghost use Rattle.definition.specs.Decode as decode;
 ghost use Rattle.definition.specs.Plan.{image_ink};
-ghost use Rattle.rle.specs.Painting.{HasPlace, HasAbove, Paintable, HasColor, PaintedOne, Paints, ink_of, zero_ink, insert_inks, back_and_color};
-
-ghost use Rattle.byte_runs.specs.Runs.{run, xored, turn};
+ghost use Rattle.rle.specs.Painting.{HasPlace, HasAbove, Paintable, HasColor, CanPaint, PaintedOne, Painted, Paints, ink_of, zero_ink, insert_inks, back_and_color};
 
 use crate::pixel::{read_pixel, write_pixel, xor};
 use crate::span::Span;
@@ -25,15 +23,25 @@ pub(crate) enum Ink {
     AboveXor([u8; 3]),
 }
 
-// n pixels of d bytes from dst[at] on, those `row` bytes back exclusive-or a color. It stays a call, and takes numbers.
+// The span's pixels, all with one ink. It stays a call, and takes the span's numbers.
 #[inline(never)]
-pub(crate) fn xor_rows(dst: &mut [u8], d: usize, at: usize, n: usize, row: usize, p: [u8; 3])
-    requires { (1 ≤ d) × (d ≤ 3) × (row ≤ at) × (at + n * d ≤ length dst.old) }
-    ensures { dst.new ≡ run (xored at row (turn p d)) at (n * d) dst.old }
+pub(crate) fn paint_many(dst: &mut [u8], bytes: usize, width: usize, start: usize, pixels: usize, ink: Ink)
+    requires numbers { (1 ≤ bytes) × (bytes ≤ 3) × (1 ≤ width) }
+    requires place { (start + pixels) * bytes ≤ length dst.old }
+    requires paintable { CanPaint bytes width start ink }
+    ensures { Painted bytes width (λ _. ink_of ink) start pixels dst.old dst.new }
 {
-    let from = at - row;
-    let end = at + n * d;
-    xor_back(&mut dst[from..end], d, row, n, row, p);
+    let span = Span {
+        bytes,
+        width,
+        start,
+        pixels,
+    };
+    match ink {
+        Ink::Solid(p) => span.paint_color(dst, p),
+        Ink::Above => span.paint_above(dst),
+        Ink::AboveXor(p) => span.paint_xor(dst, p),
+    }
 }
 
 impl Span {
@@ -99,7 +107,11 @@ impl Span {
         ensures { Paints self (λ _. decode.Ink.above_xor p) dst.old dst.new }
     {
         let d = self.bytes;
-        xor_rows(dst, d, self.start * d, self.pixels, self.width * d, p);
+        let row = self.width * d;
+        let at = self.start * d;
+        let from = at - row;
+        let end = at + self.pixels * d;
+        xor_back(&mut dst[from..end], d, row, self.pixels, row, p);
     }
 
     // All with one ink.
@@ -112,11 +124,7 @@ impl Span {
         if self.pixels == 1 {
             return self.paint_pixel(dst, 0, ink);
         }
-        match ink {
-            Ink::Solid(p) => self.paint_color(dst, p),
-            Ink::Above => self.paint_above(dst),
-            Ink::AboveXor(p) => self.paint_xor(dst, p),
-        }
+        paint_many(dst, self.bytes, self.width, self.start, self.pixels, ink)
     }
 
     // A foreground run.
