@@ -33,14 +33,11 @@ HasPlace s xs = (s.start + s.pixels) * s.bytes ≤ length xs
 abbrev pub HasAbove : Span → Type 0
 HasAbove s = s.width ≤ s.start
 
--- pixels of D bytes from number k on: the row above is there where the ink looks at it, and its color is of the depth
-abbrev pub CanPaint : ℕ → ℕ → ℕ → CodeInk → Type 0
-CanPaint D w k (Solid p) = OfDepth D p
-CanPaint D w k Above = w ≤ k
-CanPaint D w k (AboveXor p) = (w ≤ k) × OfDepth D p
-
+-- the row above is there where the ink looks at it, and its color is of the depth
 abbrev pub Paintable : Span → CodeInk → Type 0
-Paintable s ink = CanPaint s.bytes s.width s.start ink
+Paintable s (Solid p) = OfDepth s.bytes p
+Paintable s Above = HasAbove s
+Paintable s (AboveXor p) = HasAbove s × OfDepth s.bytes p
 
 abbrev pub HasColor : CodeInk → Type 0
 HasColor (Solid p) = Unit {0}

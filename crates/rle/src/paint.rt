@@ -6,7 +6,7 @@ ghost use Rattle.std.specs.Prelude.{◌≡◌, ◌+◌, ◌-◌, ◌*◌, ◌/�
 ghost use Rattle.picture.specs.Pixels.{pixel_at, OfDepth};
 ghost use Rattle.definition.specs.Decode as decode;
 ghost use Rattle.definition.specs.Plan.{image_ink};
-ghost use Rattle.rle.specs.Painting.{HasPlace, HasAbove, Paintable, HasColor, CanPaint, PaintedOne, Painted, Paints, ink_of, zero_ink, insert_inks, back_and_color};
+ghost use Rattle.rle.specs.Painting.{HasPlace, HasAbove, Paintable, HasColor, PaintedOne, Paints, ink_of, zero_ink, insert_inks, back_and_color};
 
 use crate::pixel::{read_pixel, write_pixel, xor};
 use crate::span::Span;
@@ -21,27 +21,6 @@ pub(crate) enum Ink {
     Solid([u8; 3]),
     Above,
     AboveXor([u8; 3]),
-}
-
-// The span's pixels, all with one ink. It stays a call, and takes the span's numbers.
-#[inline(never)]
-pub(crate) fn paint_many(dst: &mut [u8], bytes: usize, width: usize, start: usize, pixels: usize, ink: Ink)
-    requires numbers { (1 ≤ bytes) × (bytes ≤ 3) × (1 ≤ width) }
-    requires place { (start + pixels) * bytes ≤ length dst.old }
-    requires paintable { CanPaint bytes width start ink }
-    ensures { Painted bytes width (λ _. ink_of ink) start pixels dst.old dst.new }
-{
-    let span = Span {
-        bytes,
-        width,
-        start,
-        pixels,
-    };
-    match ink {
-        Ink::Solid(p) => span.paint_color(dst, p),
-        Ink::Above => span.paint_above(dst),
-        Ink::AboveXor(p) => span.paint_xor(dst, p),
-    }
 }
 
 impl Span {
@@ -99,7 +78,7 @@ impl Span {
     }
 
     // With the pixels above exclusive-or a color.
-    #[inline(always)]
+    #[inline(never)]
     pub(crate) fn paint_xor(self, dst: &mut [u8], p: [u8; 3])
         requires place { HasPlace self dst.old }
         requires above { HasAbove self }
@@ -124,7 +103,11 @@ impl Span {
         if self.pixels == 1 {
             return self.paint_pixel(dst, 0, ink);
         }
-        paint_many(dst, self.bytes, self.width, self.start, self.pixels, ink)
+        match ink {
+            Ink::Solid(p) => self.paint_color(dst, p),
+            Ink::Above => self.paint_above(dst),
+            Ink::AboveXor(p) => self.paint_xor(dst, p),
+        }
     }
 
     // A foreground run.
@@ -176,7 +159,6 @@ impl Span {
     }
 
     // How many bytes back masks look, nowhere in the first row, and the color of their bits that are 1, by the ink of those.
-    #[inline(always)]
     pub(crate) fn back_and_color(self, ink: Ink) -> (Option<usize>, [u8; 3])
         requires paintable { Paintable self ink }
         requires in_range { self.start * self.bytes ≤ 18446744073709551615 }
@@ -218,7 +200,6 @@ impl Span {
 
     // By one mask, src[from], of which it has eight pixels at most. Here the whole target is lent: for so few pixels a part would take
     // longer than its tests.
-    #[inline(always)]
     pub(crate) fn paint_mask_part(self, src: &[u8], from: usize, dst: &mut [u8], ink: Ink)
         requires place { HasPlace self dst.old }
         requires paintable { Paintable self ink × HasColor ink }
@@ -241,7 +222,6 @@ impl Span {
     }
 
     // Eight pixels to a mask, by the masks from src[from] on.
-    #[inline(always)]
     pub(crate) fn paint_masks(self, src: &[u8], from: usize, dst: &mut [u8], ink: Ink)
         requires place { HasPlace self dst.old }
         requires paintable { Paintable self ink × HasColor ink }
@@ -261,7 +241,6 @@ impl Span {
     }
 
     // An even number of pixels, a and b by turns.
-    #[inline(always)]
     pub(crate) fn paint_dithered(self, dst: &mut [u8], a: [u8; 3], b: [u8; 3])
         requires place { HasPlace self dst.old }
         requires even { self.pixels % 2 ≡ 0 }
@@ -275,7 +254,6 @@ impl Span {
     }
 
     // One pixel or none.
-    #[inline(always)]
     pub(crate) fn paint_single(self, dst: &mut [u8], p: [u8; 3])
         requires place { HasPlace self dst.old }
         requires single { self.pixels ≤ 1 }
@@ -289,7 +267,6 @@ impl Span {
     }
 
     // With the pixels of the stream from src[pos] on.
-    #[inline(always)]
     pub(crate) fn paint_image(self, src: &[u8], pos: usize, dst: &mut [u8])
         requires place { HasPlace self dst.old }
         requires operands { pos + self.pixels * self.bytes ≤ length src.now }
