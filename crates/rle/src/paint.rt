@@ -2,11 +2,12 @@
 //
 // A background or foreground run, and masks, may be of no pixels: that of a refused order. The others are called for at least one, so
 // that they need no test.
-ghost use Rattle.std.specs.Prelude.{◌≡◌, ◌+◌, ◌-◌, ◌*◌, ◌/◌, ◌%◌, ◌≤◌, ◌<◌, IfSome, length, drop};
+ghost use Rattle.std.specs.Prelude.{◌≡◌, ◌+◌, ◌-◌, ◌*◌, ◌/◌, ◌%◌, ◌≤◌, ◌<◌, IfSome, true, length, drop};
 ghost use Rattle.picture.specs.Pixels.{pixel_at, OfDepth};
 ghost use Rattle.definition.specs.Decode as decode;
 ghost use Rattle.definition.specs.Plan.{image_ink};
 ghost use Rattle.rle.specs.Painting.{HasPlace, HasAbove, Paintable, HasColor, PaintedOne, Paints, ink_of, zero_ink, insert_inks, back_and_color};
+ghost use Rattle.byte_runs.specs.Runs.{run, xored, turn, row_there, row_bytes, masked_by};
 
 use crate::pixel::{read_pixel, write_pixel, xor};
 use crate::span::Span;
@@ -21,6 +22,51 @@ pub(crate) enum Ink {
     Solid([u8; 3]),
     Above,
     AboveXor([u8; 3]),
+}
+
+// n pixels of d bytes from dst[at] on, those `row` bytes back exclusive-or a color. Only the bytes that it needs are lent on, so that the
+// compiler finds the tests of `xor_back` to hold; and so below. It stays a call.
+#[inline(never)]
+pub(crate) fn xor_rows(dst: &mut [u8], d: usize, at: usize, n: usize, row: usize, p: [u8; 3])
+    requires { (1 ≤ d) × (d ≤ 3) × (row ≤ at) × (at + n * d ≤ length dst.old) }
+    ensures { dst.new ≡ run (xored at row (turn p d)) at (n * d) dst.old }
+{
+    let from = at - row;
+    let end = at + n * d;
+    xor_back(&mut dst[from..end], d, row, n, row, p);
+}
+
+// 8 * m pixels of d bytes from dst[at] on, by the masks from src[from] on. It stays a call.
+#[inline(never)]
+pub(crate) fn mask_rows(
+    src: &[u8],
+    from: usize,
+    dst: &mut [u8],
+    d: usize,
+    at: usize,
+    m: usize,
+    back: Option<usize>,
+    p: [u8; 3],
+)
+    requires depth { (1 ≤ d) × (d ≤ 3) }
+    requires fits { (from + m ≤ length src.now) × (at + m * 8 * d ≤ length dst.old) }
+    requires back { row_there back at ≡ true }
+    ensures { dst.new ≡ run (row_bytes back at (masked_by src.now from d p)) at (m * 8 * d) dst.old }
+{
+    let row = back.unwrap_or(0);
+    let start = at - row;
+    let end = at + m * 8 * d;
+    let last = from + m;
+    masks(
+        &src[from..last],
+        0,
+        &mut dst[start..end],
+        d,
+        row,
+        back,
+        m,
+        p,
+    );
 }
 
 impl Span {
@@ -78,7 +124,7 @@ impl Span {
     }
 
     // With the pixels above exclusive-or a color.
-    #[inline(never)]
+    #[inline(always)]
     pub(crate) fn paint_xor(self, dst: &mut [u8], p: [u8; 3])
         requires place { HasPlace self dst.old }
         requires above { HasAbove self }
@@ -86,11 +132,7 @@ impl Span {
         ensures { Paints self (λ _. decode.Ink.above_xor p) dst.old dst.new }
     {
         let d = self.bytes;
-        let row = self.width * d;
-        let at = self.start * d;
-        let from = at - row;
-        let end = at + self.pixels * d;
-        xor_back(&mut dst[from..end], d, row, self.pixels, row, p);
+        xor_rows(dst, d, self.start * d, self.pixels, self.width * d, p);
     }
 
     // All with one ink.
@@ -159,6 +201,7 @@ impl Span {
     }
 
     // How many bytes back masks look, nowhere in the first row, and the color of their bits that are 1, by the ink of those.
+    #[inline(always)]
     pub(crate) fn back_and_color(self, ink: Ink) -> (Option<usize>, [u8; 3])
         requires paintable { Paintable self ink }
         requires in_range { self.start * self.bytes ≤ 18446744073709551615 }
@@ -172,6 +215,7 @@ impl Span {
     }
 
     // By whole masks, those from src[from] on: where a bit is 1 with the ink, where it is 0 with what the ink is without its color.
+    #[inline(always)]
     pub(crate) fn paint_whole_masks(self, src: &[u8], from: usize, dst: &mut [u8], ink: Ink)
         requires place { HasPlace self dst.old }
         requires paintable { Paintable self ink × HasColor ink }
@@ -179,23 +223,8 @@ impl Span {
         ensures { Paints self (image_ink (ink_of ink) (zero_ink ink) (drop from src.now)) dst.old dst.new }
     {
         let d = self.bytes;
-        let m = self.pixels / 8;
         let (back, p) = self.back_and_color(ink);
-        let row = back.unwrap_or(0);
-        let at = self.start * d;
-        let start = at - row;
-        let end = at + m * 8 * d;
-        let last = from + m;
-        masks(
-            &src[from..last],
-            0,
-            &mut dst[start..end],
-            d,
-            row,
-            back,
-            m,
-            p,
-        );
+        mask_rows(src, from, dst, d, self.start * d, self.pixels / 8, back, p);
     }
 
     // By one mask, src[from], of which it has eight pixels at most. Here the whole target is lent: for so few pixels a part would take

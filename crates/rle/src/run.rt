@@ -93,7 +93,7 @@ pub(crate) fn one_pixel(dst: &mut [u8], f: Frame, s: State, kind: Kind) -> Stepp
     ensures { (src : List ℕ) → s.pos ≤ length src → Executes (frame_of f) src dst.old dst.new s result (decode.order_of (frame_of f) (kind_in kind) 1) }
 {
     let p = f.room(s.pixels).pixel(kind);
-    let color = white_or_black(f, kind);
-    s.span(f, p.pixels).paint_single(dst, color);
+    s.span(f, p.pixels)
+        .paint_single(dst, white_or_black(f, kind));
     s.finished(p, false)
 }

@@ -16,7 +16,7 @@ pub paint_single-requires : goal.paint_single-requires
 paint_single-requires c =
     let ready = c.requires.ready in
     let is = c.span.ensures in
-    let color = c.white_or_black-color.ensures in
+    let color = c.white_or_black.ensures in
     record {
       place = has_place c.args.f c.args.dst.now ready (kind_in c.args.kind) 0 c.pixel-p.result (rw (c.room.ensures.0, c.room.ensures.1) at c.pixel-p.ensures) is;
       single = rw is.pixels (pixel-few (frame_of c.args.f) _ _ c.pixel-p.result c.requires.pixel (rw (c.room.ensures.0, c.room.ensures.1) at c.pixel-p.ensures));
@@ -31,5 +31,5 @@ returns c = λ src place.
     let f = frame_of c.args.f in
     let plans = rw (c.room.ensures.0, c.room.ensures.1) at c.pixel-p.ensures in
     executes_finished src _ _ c.requires.ready place (kind_in c.args.kind) c.pixel-p.result (plans ∙ pixel_counts _ _ _ _ c.requires.pixel) (pixel-leaves _ _ _ c.requires.pixel) c.finished.ensures
-    (painted_as (λ j h. pixel_ink f _ _ c.pixel-p.result (state_of f src c.args.dst.now c.args.s) c.requires.pixel plans _ c.white_or_black-color.ensures.white c.white_or_black-color.ensures.black j h)
+    (painted_as (λ j h. pixel_ink f _ _ c.pixel-p.result (state_of f src c.args.dst.now c.args.s) c.requires.pixel plans _ c.white_or_black.ensures.white c.white_or_black.ensures.black j h)
     (next-painted c.span.ensures c.paint_single.ensures))

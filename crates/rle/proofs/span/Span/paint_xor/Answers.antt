@@ -1,17 +1,14 @@
--- `paint_xor` meets its contract: the part that is lent holds the row above and the pixels. Assumes nothing.
-use native.Mathlib.Nat.{mul-le-mul_right}
-use native.Mathlib.Omega.{arith}
-use Rattle.rle.proofs.Parts.{part_xored}
+-- `paint_xor` meets its contract: the bytes that are written are the pixels. Assumes nothing.
+use mathlib.Core.Path.{sym, subst}
+use mathlib.Core.List.{List}
+use Prim.Native.Nat.{ℕ}
+use Rattle.definition.specs.Decode.{above_xor}
+use Rattle.rle.specs.Painting.{Paints}
+use Rattle.rle.proofs.Writers.{xor_painted}
 use Rattle.rle.proofs.span.Span.paint_xor.Goals as goal
-
-pub overflow_mul-row : goal.overflow_mul-row
-overflow_mul-row c =
-    omega (arith, mul-le-mul_right {m = c.args.self.width} {n = c.args.self.start} c.args.self.bytes c.requires.above, c.requires.place, c.well_formed.1.0)
-
-pub overflow_sub-from : goal.overflow_sub-from
-overflow_sub-from c =
-    mul-le-mul_right {m = c.args.self.width} {n = c.args.self.start} c.args.self.bytes c.requires.above
 
 pub returns : goal.returns
 returns c =
-    part_xored c.args.self c.args.dst.now _ c.requires.place c.requires.above c.args.p c.requires.of_depth c.xor_back.ensures
+    let s = c.args.self in
+    subst (λ (ys : List ℕ). Paints s (λ _. above_xor c.args.p) c.args.dst.now ys) (sym c.xor_rows.ensures)
+    (xor_painted s.bytes s.width s.start s.pixels c.args.dst.now s.low s.high c.requires.place s.wide c.requires.above c.args.p c.requires.of_depth)
