@@ -27,11 +27,26 @@ use Rattle.rle.specs.declared.paint.Ink.{Ink as CodeInk}
 use Rattle.rle.specs.declared.paint.Ink.TheVariants.{Solid, Above, AboveXor}
 use Rattle.rle.specs.declared.span.Span.{Span}
 use Rattle.rle.specs.Painting.{HasPlace, HasAbove, Paintable, HasColor, Painted, Paints, ink_of, zero_ink, back_and_color}
-use Rattle.rle.proofs.Writers.{fill_painted, back-painted, image-painted, dither_painted, first-painted, later_painted}
+use Rattle.rle.proofs.Writers.{back-painted, image-painted, dither_painted, first-painted, later_painted}
 
 -- the list with the part as it then is
 abbrev put_back : ℕ → ℕ → List ℕ → List ℕ → List ℕ
 put_back b m xs part = take b xs ++ (part ++ drop m (drop b xs))
+
+-- `len` bytes from place `at` on that do not depend on the list, in the part that is theirs
+own_run : (u : ℕ → ℕ) (at len : ℕ) (xs part : List ℕ) (test : Bool) → at + len ≤ length xs → test ≡ true
+    → part ≡ run_where test (bytes u) 0 len (take (at + len - at) (drop at xs))
+    → put_back at (at + len - at) xs part ≡ run (bytes u) at len xs
+own_run u at len xs part test fits holds e =
+    in_part (bytes u) (bytes u) at (at + len - at) 0 len xs part holds (omega arith) (omega arith) (λ x j h. refl) e
+    ∙ ap (λ (a : ℕ). run (bytes u) a len xs) (add-zero at)
+
+pub part_filled : (d at n : ℕ) (xs part : List ℕ) → 1 ≤ d → d ≤ 3 → at + n * d ≤ length xs → (p : Pixel)
+    → part ≡ run_where (pixels_there d 0 n (take (at + n * d - at) (drop at xs))) (bytes (turn p d)) 0 (n * d) (take (at + n * d - at) (drop at xs))
+    → put_back at (at + n * d - at) xs part ≡ run (bytes (turn p d)) at (n * d) xs
+part_filled d at n xs part low high fits p e =
+    own_run (turn p d) at (n * d) xs part _ fits
+    (pixels-there d 0 n _ low high (omega (arith, length_part at (at + n * d - at) xs (omega arith)))) e
 
 -- the pixels of a span, in the part that is theirs
 module _ (span : Span) (xs part : List ℕ) (place : HasPlace span xs) where
@@ -58,21 +73,6 @@ module _ (span : Span) (xs part : List ℕ) (place : HasPlace span xs) where
 
   all_own : n * D ≤ length own
   all_own = omega (arith, length_part (k * D) size xs inside)
-
-  -- bytes that do not depend on the list
-  own_run : (u : ℕ → ℕ) (m : ℕ) (test : Bool) → m ≡ n * D → test ≡ true → part ≡ run_where test (bytes u) 0 m own
-      → put_back (k * D) size xs part ≡ run (bytes u) (k * D) (n * D) xs
-  own_run u m test em holds e =
-      in_part (bytes u) (bytes u) (k * D) size 0 m xs part holds inside (omega arith) (λ x j h. refl) e
-      ∙ (λ i. run (bytes u) (add-zero (k * D) i) (em i) xs)
-
-  pub part_filled : (p : Pixel) → OfDepth D p → part ≡ run_where (pixels_there D 0 n own) (bytes (turn p D)) 0 (n * D) own
-      → Painted D w (λ _. solid p) k n xs (put_back (k * D) size xs part)
-  part_filled p of e =
-      let holds : pixels_there D 0 n own ≡ true = pixels-there D 0 n own span.low span.high (omega (arith, all_own)) in
-      subst (λ (ys : List ℕ). Painted D w (λ _. solid p) k n xs ys)
-      (sym (own_run (turn p D) (n * D) (pixels_there D 0 n own) refl holds e))
-      (fill_painted D w k n xs span.low span.high place p of)
 
   pub part_copied : (s : List ℕ) (from : ℕ) → from + n * D ≤ length s
       → part ≡ run_where (both (there 0 (n * D) (take (from + n * D - from) (drop from s))) (there 0 (n * D) own))
@@ -101,7 +101,8 @@ module _ (span : Span) (xs part : List ℕ) (place : HasPlace span xs) where
       let em : pairs * 2 * D ≡ n * D = ap (λ (m : ℕ). m * D) (sym en) in
       let holds : pixels_there D 0 (pairs * 2) own ≡ true = pixels-there D 0 (pairs * 2) own span.low span.high (omega (arith, all_own)) in
       subst (λ (ys : List ℕ). Painted D w (dither_ink p q) k n xs ys)
-      (sym (own_run (turn (pair_of D p q) (2 * D)) (pairs * 2 * D) (pixels_there D 0 (pairs * 2) own) em holds e))
+      (sym (own_run (turn (pair_of D p q) (2 * D)) (k * D) (n * D) xs part (pixels_there D 0 (pairs * 2) own) (omega (arith, place)) holds
+      (e ∙ (λ i. run_where (pixels_there D 0 (pairs * 2) own) (bytes (turn (pair_of D p q) (2 * D))) 0 (em i) own))))
       (dither_painted D w k n xs span.low span.high place p q of of')
 
 -- `len` bytes from place `at` on, in a part that has the bytes from `row` places back on too

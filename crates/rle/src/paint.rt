@@ -7,7 +7,7 @@ ghost use Rattle.picture.specs.Pixels.{pixel_at, OfDepth};
 ghost use Rattle.definition.specs.Decode as decode;
 ghost use Rattle.definition.specs.Plan.{image_ink};
 ghost use Rattle.rle.specs.Painting.{HasPlace, HasAbove, Paintable, HasColor, PaintedOne, Paints, ink_of, zero_ink, insert_inks, back_and_color};
-ghost use Rattle.byte_runs.specs.Runs.{run, xored, turn, row_there, row_bytes, masked_by};
+ghost use Rattle.byte_runs.specs.Runs.{run, bytes, xored, turn, row_there, row_bytes, masked_by};
 
 use crate::pixel::{read_pixel, write_pixel, xor};
 use crate::span::Span;
@@ -24,8 +24,18 @@ pub(crate) enum Ink {
     AboveXor([u8; 3]),
 }
 
-// n pixels of d bytes from dst[at] on, those `row` bytes back exclusive-or a color. Only the bytes that it needs are lent on, so that the
-// compiler finds the tests of `xor_back` to hold; and so below. It stays a call.
+// n pixels of d bytes from dst[at] on, in a color. Only their bytes are lent on, so that the compiler finds the tests of `fill` to hold;
+// and so below. It stays a call.
+#[inline(never)]
+pub(crate) fn fill_row(dst: &mut [u8], d: usize, at: usize, n: usize, p: [u8; 3])
+    requires { (1 ≤ d) × (d ≤ 3) × (at + n * d ≤ length dst.old) }
+    ensures { dst.new ≡ run (bytes (turn p d)) at (n * d) dst.old }
+{
+    let end = at + n * d;
+    fill(&mut dst[at..end], d, 0, n, p);
+}
+
+// n pixels of d bytes from dst[at] on, those `row` bytes back exclusive-or a color. It stays a call.
 #[inline(never)]
 pub(crate) fn xor_rows(dst: &mut [u8], d: usize, at: usize, n: usize, row: usize, p: [u8; 3])
     requires { (1 ≤ d) × (d ≤ 3) × (row ≤ at) × (at + n * d ≤ length dst.old) }
@@ -93,8 +103,7 @@ impl Span {
         }
     }
 
-    // In a color. The part that is lent is as long as the pixels, so that the compiler finds the tests of the writer to hold; and so
-    // below.
+    // In a color.
     #[inline(always)]
     pub(crate) fn paint_color(self, dst: &mut [u8], p: [u8; 3])
         requires place { HasPlace self dst.old }
@@ -102,9 +111,7 @@ impl Span {
         ensures { Paints self (λ _. decode.Ink.solid p) dst.old dst.new }
     {
         let d = self.bytes;
-        let at = self.start * d;
-        let end = at + self.pixels * d;
-        fill(&mut dst[at..end], d, 0, self.pixels, p);
+        fill_row(dst, d, self.start * d, self.pixels, p);
     }
 
     // With the pixels above.
@@ -280,19 +287,6 @@ impl Span {
         let at = self.start * d;
         let end = at + self.pixels * d;
         fill_pairs(&mut dst[at..end], d, 0, self.pixels / 2, a, b);
-    }
-
-    // One pixel or none.
-    pub(crate) fn paint_single(self, dst: &mut [u8], p: [u8; 3])
-        requires place { HasPlace self dst.old }
-        requires single { self.pixels ≤ 1 }
-        requires of_depth { OfDepth self.bytes p }
-        ensures { Paints self (λ _. decode.Ink.solid p) dst.old dst.new }
-    {
-        if self.pixels == 0 {
-            return;
-        }
-        write_pixel(dst, self.bytes, self.start * self.bytes, p)
     }
 
     // With the pixels of the stream from src[pos] on.

@@ -93,7 +93,10 @@ pub(crate) fn one_pixel(dst: &mut [u8], f: Frame, s: State, kind: Kind) -> Stepp
     ensures { (src : List ℕ) → s.pos ≤ length src → Executes (frame_of f) src dst.old dst.new s result (decode.order_of (frame_of f) (kind_in kind) 1) }
 {
     let p = f.room(s.pixels).pixel(kind);
+    if p.pixels == 0 {
+        return s.finished(p, false);
+    }
     s.span(f, p.pixels)
-        .paint_single(dst, white_or_black(f, kind));
+        .paint_pixel(dst, 0, Ink::Solid(white_or_black(f, kind)));
     s.finished(p, false)
 }
