@@ -7,7 +7,7 @@ ghost use Rattle.picture.specs.Pixels.{pixel_at, OfDepth};
 ghost use Rattle.definition.specs.Decode as decode;
 ghost use Rattle.definition.specs.Plan.{image_ink};
 ghost use Rattle.rle.specs.Painting.{HasPlace, HasAbove, Paintable, HasColor, PaintedOne, Paints, ink_of, zero_ink, insert_inks, back_and_color};
-ghost use Rattle.byte_runs.specs.Runs.{run, bytes, xored, turn, row_there, row_bytes, masked_by};
+ghost use Rattle.byte_runs.specs.Runs.{run, xored, turn, row_there, row_bytes, masked_by};
 
 use crate::pixel::{read_pixel, write_pixel, xor};
 use crate::span::Span;
@@ -22,17 +22,6 @@ pub(crate) enum Ink {
     Solid([u8; 3]),
     Above,
     AboveXor([u8; 3]),
-}
-
-// n pixels of d bytes from dst[at] on, in a color. Only their bytes are lent on, so that the compiler finds the tests of `fill` to hold;
-// and so below. It stays a call.
-#[inline(never)]
-pub(crate) fn fill_row(dst: &mut [u8], d: usize, at: usize, n: usize, p: [u8; 3])
-    requires { (1 ≤ d) × (d ≤ 3) × (at + n * d ≤ length dst.old) }
-    ensures { dst.new ≡ run (bytes (turn p d)) at (n * d) dst.old }
-{
-    let end = at + n * d;
-    fill(&mut dst[at..end], d, 0, n, p);
 }
 
 // n pixels of d bytes from dst[at] on, those `row` bytes back exclusive-or a color. It stays a call.
@@ -103,7 +92,8 @@ impl Span {
         }
     }
 
-    // In a color.
+    // In a color. The part that is lent is as long as the pixels, so that the compiler finds the tests of `fill` to hold; and so in the
+    // others.
     #[inline(always)]
     pub(crate) fn paint_color(self, dst: &mut [u8], p: [u8; 3])
         requires place { HasPlace self dst.old }
@@ -111,7 +101,9 @@ impl Span {
         ensures { Paints self (λ _. decode.Ink.solid p) dst.old dst.new }
     {
         let d = self.bytes;
-        fill_row(dst, d, self.start * d, self.pixels, p);
+        let at = self.start * d;
+        let end = at + self.pixels * d;
+        fill(&mut dst[at..end], d, 0, self.pixels, p);
     }
 
     // With the pixels above.
