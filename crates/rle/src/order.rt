@@ -29,6 +29,7 @@ impl<'a> Order<'a> {
     ghost use Rattle.rle.specs.Carrying.{HasPicture, CarriesOut};
 
     // The state with the foreground that an order of this kind reads, if it does and its bytes are there.
+    #[inline(always)]
     pub(crate) fn with_foreground(self, kind: Kind) -> State
         ensures { result ≡ with_fg self.entry.state (plan.foreground_by self.entry.frame.depth.bytes (kind_in kind) self.entry.state.foreground (drop self.entry.state.pos self.entry.src.now)) }
     {
@@ -50,7 +51,8 @@ impl<'a> Order<'a> {
         match kind {
             Kind::White | Kind::Black | Kind::NoOrder => self.one_pixel(dst, kind),
             Kind::BgRun => self.bg_run(dst),
-            Kind::FgRun | Kind::SetFgRun => self.fg_run(dst, kind),
+            Kind::FgRun => self.fg_run(dst, Kind::FgRun),
+            Kind::SetFgRun => self.fg_run(dst, Kind::SetFgRun),
             Kind::FgBgImage | Kind::SetFgBgImage => self.fgbg_image(dst, kind),
             Kind::ColorRun => self.color_run(dst),
             Kind::ColorImage => self.color_image(dst),

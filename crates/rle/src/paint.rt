@@ -2,12 +2,12 @@
 //
 // A background or foreground run, and masks, may be of no pixels: that of a refused order. The others are called for at least one, so
 // that they need no test.
-ghost use Rattle.std.specs.Prelude.{◌≡◌, ◌+◌, ◌-◌, ◌*◌, ◌/◌, ◌%◌, ◌≤◌, ◌<◌, IfSome, length, drop};
+ghost use Rattle.std.specs.Prelude.{◌≡◌, ◌+◌, ◌-◌, ◌*◌, ◌/◌, ◌%◌, ◌≤◌, ◌<◌, IfSome, true, length, drop};
 ghost use Rattle.picture.specs.Pixels.{pixel_at, OfDepth};
 ghost use Rattle.definition.specs.Decode as decode;
 ghost use Rattle.definition.specs.Plan.{image_ink};
 ghost use Rattle.rle.specs.Painting.{HasPlace, HasAbove, Paintable, HasColor, PaintedOne, Paints, ink_of, zero_ink, insert_inks, back_and_color};
-ghost use Rattle.byte_runs.specs.Runs.{run, xored, turn};
+ghost use Rattle.byte_runs.specs.Runs.{run, xored, turn, row_there, row_bytes, masked_by};
 
 use crate::pixel::{read_pixel, write_pixel, xor};
 use crate::span::Span;
@@ -24,7 +24,7 @@ pub(crate) enum Ink {
     AboveXor([u8; 3]),
 }
 
-// n pixels of d bytes from dst[at] on, those `row` bytes back exclusive-or a color. It stays a call, and takes numbers.
+// n pixels of d bytes from dst[at] on, those `row` bytes back exclusive-or a color. It stays a call.
 #[inline(never)]
 pub(crate) fn xor_rows(dst: &mut [u8], d: usize, at: usize, n: usize, row: usize, p: [u8; 3])
     requires { (1 ≤ d) × (d ≤ 3) × (row ≤ at) × (at + n * d ≤ length dst.old) }
@@ -33,6 +33,39 @@ pub(crate) fn xor_rows(dst: &mut [u8], d: usize, at: usize, n: usize, row: usize
     let from = at - row;
     let end = at + n * d;
     xor_back(&mut dst[from..end], d, row, n, row, p);
+}
+
+// 8 * m pixels of d bytes from dst[at] on, by the masks from src[from] on. It stays a call.
+#[inline(never)]
+pub(crate) fn mask_rows(
+    src: &[u8],
+    from: usize,
+    dst: &mut [u8],
+    d: usize,
+    at: usize,
+    m: usize,
+    back: Option<usize>,
+    p: [u8; 3],
+)
+    requires depth { (1 ≤ d) × (d ≤ 3) }
+    requires fits { (from + m ≤ length src.now) × (at + m * 8 * d ≤ length dst.old) }
+    requires back { row_there back at ≡ true }
+    ensures { dst.new ≡ run (row_bytes back at (masked_by src.now from d p)) at (m * 8 * d) dst.old }
+{
+    let row = back.unwrap_or(0);
+    let start = at - row;
+    let end = at + m * 8 * d;
+    let last = from + m;
+    masks(
+        &src[from..last],
+        0,
+        &mut dst[start..end],
+        d,
+        row,
+        back,
+        m,
+        p,
+    );
 }
 
 impl Span {
@@ -59,8 +92,8 @@ impl Span {
         }
     }
 
-    // In a color. The part that is lent is as long as the pixels, so that the compiler finds the tests of the writer to hold; and so
-    // below.
+    // In a color. The part that is lent is as long as the pixels, so that the compiler finds the tests of `fill` to hold; and so in the
+    // others.
     #[inline(always)]
     pub(crate) fn paint_color(self, dst: &mut [u8], p: [u8; 3])
         requires place { HasPlace self dst.old }
@@ -181,6 +214,7 @@ impl Span {
     }
 
     // By whole masks, those from src[from] on: where a bit is 1 with the ink, where it is 0 with what the ink is without its color.
+    #[inline(always)]
     pub(crate) fn paint_whole_masks(self, src: &[u8], from: usize, dst: &mut [u8], ink: Ink)
         requires place { HasPlace self dst.old }
         requires paintable { Paintable self ink × HasColor ink }
@@ -188,28 +222,12 @@ impl Span {
         ensures { Paints self (image_ink (ink_of ink) (zero_ink ink) (drop from src.now)) dst.old dst.new }
     {
         let d = self.bytes;
-        let m = self.pixels / 8;
         let (back, p) = self.back_and_color(ink);
-        let row = back.unwrap_or(0);
-        let at = self.start * d;
-        let start = at - row;
-        let end = at + m * 8 * d;
-        let last = from + m;
-        masks(
-            &src[from..last],
-            0,
-            &mut dst[start..end],
-            d,
-            row,
-            back,
-            m,
-            p,
-        );
+        mask_rows(src, from, dst, d, self.start * d, self.pixels / 8, back, p);
     }
 
     // By one mask, src[from], of which it has eight pixels at most. Here the whole target is lent: for so few pixels a part would take
     // longer than its tests.
-    #[inline(always)]
     pub(crate) fn paint_mask_part(self, src: &[u8], from: usize, dst: &mut [u8], ink: Ink)
         requires place { HasPlace self dst.old }
         requires paintable { Paintable self ink × HasColor ink }
@@ -232,7 +250,6 @@ impl Span {
     }
 
     // Eight pixels to a mask, by the masks from src[from] on.
-    #[inline(always)]
     pub(crate) fn paint_masks(self, src: &[u8], from: usize, dst: &mut [u8], ink: Ink)
         requires place { HasPlace self dst.old }
         requires paintable { Paintable self ink × HasColor ink }
@@ -252,7 +269,6 @@ impl Span {
     }
 
     // An even number of pixels, a and b by turns.
-    #[inline(always)]
     pub(crate) fn paint_dithered(self, dst: &mut [u8], a: [u8; 3], b: [u8; 3])
         requires place { HasPlace self dst.old }
         requires even { self.pixels % 2 ≡ 0 }
@@ -265,22 +281,7 @@ impl Span {
         fill_pairs(&mut dst[at..end], d, 0, self.pixels / 2, a, b);
     }
 
-    // One pixel or none.
-    #[inline(always)]
-    pub(crate) fn paint_single(self, dst: &mut [u8], p: [u8; 3])
-        requires place { HasPlace self dst.old }
-        requires single { self.pixels ≤ 1 }
-        requires of_depth { OfDepth self.bytes p }
-        ensures { Paints self (λ _. decode.Ink.solid p) dst.old dst.new }
-    {
-        if self.pixels == 0 {
-            return;
-        }
-        write_pixel(dst, self.bytes, self.start * self.bytes, p)
-    }
-
     // With the pixels of the stream from src[pos] on.
-    #[inline(always)]
     pub(crate) fn paint_image(self, src: &[u8], pos: usize, dst: &mut [u8])
         requires place { HasPlace self dst.old }
         requires operands { pos + self.pixels * self.bytes ≤ length src.now }

@@ -109,6 +109,7 @@ impl Room {
     }
 
     // A foreground run, with or without a foreground of its own.
+    #[inline(always)]
     pub(crate) fn fg_run(self, kind: Kind, n: usize, left: usize) -> Plan
         requires few { n ≤ 65536 }
         requires run { (kind ≡ FgRun) ⊎ (kind ≡ SetFgRun) }

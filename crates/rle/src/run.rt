@@ -27,7 +27,8 @@ impl<'a> Order<'a> {
         s.finished(p, Kind::BgRun)
     }
 
-    // A foreground run, with or without a foreground of its own.
+    // A foreground run, with or without a foreground of its own. Each kind has a copy of its own, so that neither tests for the other.
+    #[inline(always)]
     pub(crate) fn fg_run(self, dst: &mut [u8], kind: Kind) -> Stepped
         requires place { HasPicture self dst.old }
         requires run { (kind ≡ FgRun) ⊎ (kind ≡ SetFgRun) }
@@ -89,8 +90,11 @@ impl<'a> Order<'a> {
     {
         let s = self.state;
         let p = self.frame.room(s.pixels).pixel(kind);
+        if p.pixels == 0 {
+            return s.finished(p, kind);
+        }
         s.span(self.frame, p.pixels)
-            .paint_single(dst, white_or_black(self.frame, kind));
+            .paint_pixel(dst, 0, Ink::Solid(white_or_black(self.frame, kind)));
         s.finished(p, kind)
     }
 }
