@@ -152,7 +152,7 @@ insert_only f NoOrder i fg bg xs j = refl
 module _ (o : Order) (dst : List ℕ) (c : CodeKind) {own : Pixel}
     (is-own : own ≡ foreground_by o.frame.depth.bytes (kind_in c) o.state.foreground (drop o.state.pos o.src.now))
     (fits : HasPicture o dst) (p : CodePlan)
-    (plans : counts_in p ≡ counts_of o.frame.depth.bytes (kind_in c) o.run_length (length o.src.now - o.state.pos) (o.frame.total - o.state.pixels)) where
+    (plans : counts_in p ≡ counts_of o.frame.depth.bytes (kind_in c) o.run_length.pixels (length o.src.now - o.state.pos) (o.frame.total - o.state.pixels)) where
   -- the order with that foreground
   pub own_holds : Invariant (frame_of o.frame) (with_fg o.state own)
   own_holds =
@@ -167,7 +167,7 @@ module _ (o : Order) (dst : List ℕ) (c : CodeKind) {own : Pixel}
   own_room = omega (arith, (within (ready o _ fits) (kind_in c) _ p plans).pixels, o.holds.within)
 
   pub own_operands : HasOperands c o.frame.depth.bytes p.pixels (length o.src.now - o.state.pos)
-  own_operands = has_operands o.frame.depth.bytes o.run_length (length o.src.now - o.state.pos) (o.frame.total - o.state.pixels) p c plans
+  own_operands = has_operands o.frame.depth.bytes o.run_length.pixels (length o.src.now - o.state.pos) (o.frame.total - o.state.pixels) p c plans
 
   pub executes_painted : {after : List ℕ} {r : Stepped} → r ≡ finished_of (with_fg o.state own) p (leaves_insert (kind_in c))
       → Painted o.frame.depth.bytes o.frame.width (kind_ink (frame_of o.frame) (kind_in c) o.state.insert (ink_of (fg_of (with_fg o.state own))) (ink_of (bg_of o.frame o.state)) (drop o.state.pos o.src.now)) o.state.pixels p.pixels dst after

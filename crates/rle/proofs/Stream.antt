@@ -45,7 +45,7 @@ module _ (f : CodeFrame) (src dst : List ℕ) (s : CodeState) (begun : first_row
 
   -- its head was read
   pub order_executes : {o : OrderHead} → HeadAt src s.pos o → (after : List ℕ) (r : Stepped)
-      → Executes (frame_of f) src dst after (at_pos s o.next) r (order_of (frame_of f) (kind_in o.kind) o.run_length)
+      → Executes (frame_of f) src dst after (at_pos s o.next) r (order_of (frame_of f) (kind_in o.kind) o.run_length.pixels)
       → Executes (frame_of f) src dst after s r (step (frame_of f))
   unfolding order_from with_left
   order_executes at after r d =
@@ -61,7 +61,7 @@ module _ (f : CodeFrame) (src dst : List ℕ) (s : CodeState) (begun : first_row
 
   -- and the order reads on
   pub order_read : {o : OrderHead} → HeadAt src s.pos o → (after : List ℕ) (r : Stepped)
-      → Executes (frame_of f) src dst after (at_pos s o.next) r (order_of (frame_of f) (kind_in o.kind) o.run_length)
+      → Executes (frame_of f) src dst after (at_pos s o.next) r (order_of (frame_of f) (kind_in o.kind) o.run_length.pixels)
       → Executes (frame_of f) src dst after s r (step (frame_of f)) × (s.pos < r.state.pos) × (s.pos < length src)
   order_read at after r d = (order_executes at after r d, omega (arith, at.reads, d.reads), omega (arith, at.reads, at.place))
 

@@ -74,9 +74,9 @@ pub record CompletesOrder (f : Frame) (src : List ℕ) (w v : Walk) : Type 0 whe
 module _ (f : CodeFrame) (src : List ℕ) (w : Walk) (within : w.pixels ≤ f.total) where
   -- its head was read
   module _ {o : OrderHead} (at : HeadAt src w.pos o) (p : CodePlan)
-      (plans : counts_in p ≡ counts_of f.depth.bytes (kind_in o.kind) o.run_length (length src - o.next) (f.total - w.pixels)) where
+      (plans : counts_in p ≡ counts_of f.depth.bytes (kind_in o.kind) o.run_length.pixels (length src - o.next) (f.total - w.pixels)) where
     pub enough : Within (length src - o.next) (f.total - w.pixels) (counts_in p)
-    enough = rw plans (kind-within f.depth.bytes (kind_in o.kind) o.run_length (length src - o.next) (f.total - w.pixels) at.some)
+    enough = rw plans (kind-within f.depth.bytes (kind_in o.kind) o.run_length.pixels (length src - o.next) (f.total - w.pixels) o.run_length.some)
 
     pub order-refused : (e : RleError) → p.ending ≡ Err e → RefusesOrder (frame_of f) src w e (w.pixels + p.pixels)
     unfolding plan_of plan_from plan_by past_first_row orders_after

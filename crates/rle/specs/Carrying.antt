@@ -14,4 +14,4 @@ HasPicture o xs = o.frame.total * o.frame.depth.bytes ≤ length xs
 -- the order is carried out as one of this kind
 abbrev pub CarriesOut : Order → Kind → List ℕ → List ℕ → Stepped → Type 0
 CarriesOut o k before after r =
-    Executes (frame_of o.frame) o.src.now before after o.state r (order_of (frame_of o.frame) k o.run_length)
+    Executes (frame_of o.frame) o.src.now before after o.state r (order_of (frame_of o.frame) k o.run_length.pixels)

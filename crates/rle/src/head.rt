@@ -7,6 +7,7 @@ ghost use Rattle.rle.specs.Heads.{own_place, mega_in, ReadsLength, ReadsHead};
 
 use crate::header::Headers;
 use crate::kind::Kind;
+use crate::length::Length;
 use crate::record::Place;
 use buf::{u8_from, u16_from};
 use picture::RleError;
@@ -32,7 +33,7 @@ pub(crate) struct OrderHead {
     pub(crate) header: usize,
     pub(crate) place: Place,
     pub(crate) kind: Kind,
-    pub(crate) run_length: usize,
+    pub(crate) run_length: Length,
     pub(crate) next: usize,
 }
 
@@ -135,7 +136,9 @@ pub(crate) fn read_head(
         header,
         place: length.place,
         kind,
-        run_length: length.pixels,
+        run_length: Length {
+            pixels: length.pixels,
+        },
         next: length.next,
     }))
 }

@@ -6,6 +6,7 @@ ghost use Rattle.rle.specs.declared.kind.Kind.TheVariants.{FgBgImage, SetFgBgIma
 ghost use Rattle.rle.specs.Carrying.{HasPicture, CarriesOut};
 
 use crate::kind::Kind;
+use crate::length::Length;
 use crate::order::Order;
 use crate::plan::foreground_size;
 use crate::state::Stepped;
@@ -28,12 +29,12 @@ impl<'a> Order<'a> {
 
     pub(crate) fn special_fgbg(self, dst: &mut [u8], kind: Kind) -> Stepped
         requires place { HasPicture self dst.old }
-        requires eight { self.run_length ≡ 8 }
+        requires eight { self.run_length.pixels ≡ 8 }
         requires special { (kind ≡ SpecialFgBg1) ⊎ (kind ≡ SpecialFgBg2) }
         ensures { CarriesOut self.entry (kind_in kind) dst.old dst.new result }
     {
         let s = self.state;
-        let p = self.frame.room(s.pixels).run(8);
+        let p = self.frame.room(s.pixels).run(Length { pixels: 8 });
         let masks = [special_mask(kind)];
         s.span(self.frame, p.pixels)
             .paint_whole_masks(&masks, 0, dst, s.fg_ink());

@@ -15,6 +15,7 @@ pub(crate) mod head;
 pub(crate) mod header;
 pub(crate) mod image;
 pub mod kind;
+pub(crate) mod length;
 pub(crate) mod order;
 pub(crate) mod paint;
 pub(crate) mod pixel;

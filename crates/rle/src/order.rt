@@ -4,6 +4,7 @@ ghost use Rattle.rle.specs.States.{frame_of, Invariant};
 
 use crate::frame::Frame;
 use crate::kind::Kind;
+use crate::length::Length;
 use crate::pixel::read_pixel;
 use crate::state::{State, Stepped};
 
@@ -14,11 +15,9 @@ pub(crate) struct Order<'a> {
     pub(crate) src: &'a [u8],
     pub(crate) frame: Frame,
     pub(crate) state: State,
-    pub(crate) run_length: usize,
+    pub(crate) run_length: Length,
     pub(crate) ghost place: { state.pos ≤ length src.now },
     pub(crate) ghost holds: { Invariant (frame_of frame) state },
-    pub(crate) ghost some: { 1 ≤ run_length },
-    pub(crate) ghost few: { run_length ≤ 65536 },
 }
 
 impl<'a> Order<'a> {
@@ -45,7 +44,7 @@ impl<'a> Order<'a> {
     // Carries it out as one of this kind.
     pub(crate) fn carry_out(self, dst: &mut [u8], kind: Kind) -> Stepped
         requires place { HasPicture self dst.old }
-        requires fixed { fixed_length kind self.run_length }
+        requires fixed { fixed_length kind self.run_length.pixels }
         ensures { CarriesOut self.entry (kind_in kind) dst.old dst.new result }
     {
         match kind {

@@ -38,7 +38,7 @@ impl OrderRecord {
             header: o.header,
             place: o.place,
             kind: o.kind,
-            run_length: o.run_length,
+            run_length: o.run_length.pixels,
             pixels,
             first_row: begun.first_row,
             inserted: o.kind.leaves_insert() && begun.insert,

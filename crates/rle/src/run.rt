@@ -84,7 +84,7 @@ impl<'a> Order<'a> {
     // One white or black pixel, or no order. One function for them: as arms of a jump they would be mispredicted half the time.
     pub(crate) fn one_pixel(self, dst: &mut [u8], kind: Kind) -> Stepped
         requires place { HasPicture self dst.old }
-        requires one { self.run_length ≡ 1 }
+        requires one { self.run_length.pixels ≡ 1 }
         requires pixel { (kind ≡ White) ⊎ ((kind ≡ Black) ⊎ (kind ≡ NoOrder)) }
         ensures { CarriesOut self.entry (kind_in kind) dst.old dst.new result }
     {

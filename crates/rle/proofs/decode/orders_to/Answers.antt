@@ -38,16 +38,6 @@ invariant_of-next-clause-place c =
 pub invariant_of-next-clause-holds : goal.invariant_of-next-clause-holds
 invariant_of-next-clause-holds c = rw c.moved.ensures (invariant_at _ c.loop-t.invariant.0.invariant)
 
-pub invariant_of-next-clause-some : goal.invariant_of-next-clause-some
-invariant_of-next-clause-some c =
-    let at = rw c.in-Ok-Some.field-0-is at c.in-Ok-Some.ensures in
-    at.some
-
-pub invariant_of-next-clause-few : goal.invariant_of-next-clause-few
-invariant_of-next-clause-few c =
-    let at = rw c.in-Ok-Some.field-0-is at c.in-Ok-Some.ensures in
-    at.few
-
 pub carry_out-r-requires : goal.carry_out-r-requires
 carry_out-r-requires c =
     let at = rw c.in-Ok-Some.field-0-is at c.in-Ok-Some.ensures in

@@ -23,11 +23,6 @@ room-requires c = c.loop-o.invariant.within
 pub overflow_sub-src : goal.overflow_sub-src
 overflow_sub-src c = (rw c.in-Ok-Some.field-0-is at c.in-Ok-Some.ensures).place
 
-pub order-p-requires : goal.order-p-requires
-order-p-requires c =
-    let at = rw c.in-Ok-Some.field-0-is at c.in-Ok-Some.ensures in
-    at.few
-
 pub overflow_add-walk : goal.overflow_add-walk
 overflow_add-walk c =
     let at = rw c.in-Ok-Some.field-0-is at c.in-Ok-Some.ensures in

@@ -29,7 +29,7 @@ paint_image-requires c =
     let is = c.span.ensures in
     record {
       place = has_place c.args.self.frame c.args.dst.now (ready c.args.self _ c.requires) ColorImage _ c.color_image-p.result (rw (c.room.ensures.0, c.room.ensures.1) at c.color_image-p.ensures) is;
-      operands = rw (is.bytes, is.pixels) (omega (arith, image-operands _ c.color_image-p.result _ c.args.self.run_length _ (rw (c.room.ensures.0, c.room.ensures.1) at c.color_image-p.ensures)));
+      operands = rw (is.bytes, is.pixels) (omega (arith, image-operands _ c.color_image-p.result _ c.args.self.run_length.pixels _ (rw (c.room.ensures.0, c.room.ensures.1) at c.color_image-p.ensures)));
     }
 
 pub finished-requires-2 : goal.finished-requires-2

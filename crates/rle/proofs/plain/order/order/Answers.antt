@@ -16,8 +16,6 @@ invariant_of-with_foreground c =
       holds =
           own_holds o c.args.dst.now c.args.kind c.order_foreground-foreground.ensures c.requires c.order-p.result
           (rw (c.room.ensures.0, c.room.ensures.1) at c.order-p.ensures);
-      some = o.some;
-      few = o.few;
     }
 
 pub paint_order-requires : goal.paint_order-requires

@@ -4,4 +4,4 @@ use Rattle.rle.proofs.Sharing.{run_counts_by}
 use Rattle.rle.proofs.plan.Room.fg_run.Goals as goal
 
 pub returns : goal.returns
-returns c = (rw c.foreground_size.ensures at c.with_operands.ensures) ∙ run_counts_by _ _ _ _ c.requires.run
+returns c = (rw c.foreground_size.ensures at c.with_operands.ensures) ∙ run_counts_by _ _ _ _ c.requires
