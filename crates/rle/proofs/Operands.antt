@@ -57,18 +57,6 @@ has_operands D n a R p kinds.White plans = tt
 has_operands D n a R p kinds.Black plans = tt
 has_operands D n a R p kinds.NoOrder plans = ap (λ (x : Counts). x.pixels) plans
 
--- the masks of an fg/bg image stand behind its foreground, of `size` bytes
-pub masks_left : (D n L pos : ℕ) {size : ℕ} {k : CodeKind} → (k ≡ kinds.FgBgImage) ⊎ (k ≡ kinds.SetFgBgImage) → HasOperands k D n (L - pos)
-    → size ≡ pick (sets_foreground k) D 0 → n ≤ (L - (pos + size)) * 8
-masks_left D n L pos (inl e) operands sized =
-    let few : n ≤ (L - pos) * 8 = rw e at operands in
-    let z = rw e at sized in
-    omega (arith, few, z)
-masks_left D n L pos (inr e) operands sized =
-    let few : n ≤ (L - pos - D) * 8 = rw e at operands in
-    let z = rw e at sized in
-    omega (arith, few, z)
-
 -- ---- painting
 
 -- the span that is painted, and the state's inks in it
