@@ -2,8 +2,7 @@
 use mathlib.Core.Path.{◌≡◌, refl, ap, sym, ◌∙◌, subst}
 use mathlib.Core.List.{List, [], ◌∷◌, ◌++◌}
 use mathlib.Core.Bool.{Bool, true, false}
-use Rattle.std.specs.Prelude.{Option, None, Some}
-use Rattle.std.specs.Option.{unwrap_or}
+use Rattle.std.specs.Prelude.{Some}
 use Prim.Native.Nat.{ℕ, ◌+◌, ◌*◌, ◌-◌, ◌/◌, ◌%◌, ◌^◌, ◌≤◌, ◌<◌}
 use native.Mathlib.Nat.{add-zero, add_assoc, mul-le-mul_right}
 use native.Mathlib.Numerals.{add-one}
@@ -14,14 +13,13 @@ use lib.Bits.{bit_xor}
 use lib.ListN.{length, get_or, take, drop, take-append-drop}
 use lib.Seq.{drop-drop, get_or-drop}
 use Rattle.rle.specs.declared.paint.Ink.{Ink as CodeInk}
-use Rattle.rle.specs.declared.paint.Ink.TheVariants.{Solid, Above, AboveXor}
 use Rattle.rle.specs.declared.span.Span.{Span}
 use Rattle.base.specs.Picks.{pick}
 use Rattle.picture.specs.Pixels.{Pixel, first_pixel, pixel_at, pixels_of, bytes_of, xor_pixel, OfDepth}
 use Rattle.definition.specs.Decode.{Ink, solid, above, above_xor, color, paint, pixel_above, mask_ink, dither_ink}
 use Rattle.definition.specs.Plan.{image_ink}
 use Rattle.rle.specs.Stored.{store_pixel}
-use Rattle.rle.specs.Painting.{HasPlace, HasAbove, Paintable, IsPart, PaintedOne, Painted, Paints, ink_of, insert_inks}
+use Rattle.rle.specs.Painting.{HasPlace, HasAbove, IsPart, PaintedOne, Painted, Paints, ink_of, insert_inks}
 use Rattle.picture.proofs.Pixels.{length-first_pixel, of_depth, length-pixels_of, get_or-pixels_of, bytes-pixels}
 use Rattle.definition.proofs.Painting.{paint_cong, paint_add}
 use Rattle.rle.proofs.Pixels.{store_before, store_there, store_after}
@@ -49,9 +47,6 @@ of_depth_xor D a b p q = λ i.
 pub above-is : (D w k : ℕ) (xs : List ℕ) → 1 ≤ w → w ≤ k → pixel_above w (pixels_of D k xs) ≡ pixel_at D xs (k - w)
 unfolding pixel_above
 above-is D w k xs h b = rw length-pixels_of (get_or-pixels_of D k xs (k - w) (0 ∷ 0 ∷ 0 ∷ []) (omega arith))
-
-pub back_fits : (D w k : ℕ) → (k - w) * D + D ≤ (k + 1) * D
-back_fits D w k = omega (arith, mul-le-mul_right {m = k - w} {n = k} D (omega arith))
 
 painted_one_of : (D w k : ℕ) (xs ys q : List ℕ) (ink : Ink) → 1 ≤ D → D ≤ 3 → (k + 1) * D ≤ length xs
     → OfDepth D q → q ≡ color w (pixels_of D k xs) ink → ys ≡ store_pixel D xs (k * D) q → PaintedOne D w ink k xs ys
@@ -182,19 +177,6 @@ painted_same s {ink} {before₁} {after₁} {before₂} {after₂} place e l₁ 
 
 -- t: n of the pixels of s, from number i of them on
 module _ {s t : Span} {i n : ℕ} (is : IsPart s i n t) where
-  pub place_in : (xs ys : List ℕ) → HasPlace s xs → i + n ≤ s.pixels → length ys ≡ length xs → HasPlace t ys
-  place_in xs ys place h e =
-      rw (is.bytes, is.start, is.pixels, e)
-      (omega (arith, place, mul-le-mul_right {m = s.start + i + n} {n = s.start + s.pixels} s.bytes (omega arith)))
-
-  pub above_in : HasAbove s → HasAbove t
-  above_in h = rw (is.width, is.start) (omega arith)
-
-  pub paintable_in : (ink : CodeInk) → Paintable s ink → Paintable t ink
-  paintable_in (Solid p) h = rw is.bytes h
-  paintable_in Above h = above_in h
-  paintable_in (AboveXor p) h = (above_in h.0, rw is.bytes h.1)
-
   pub painted_in : {ink : ℕ → Ink} {xs ys : List ℕ} → Paints t ink xs ys → Painted s.bytes s.width ink (s.start + i) n xs ys
   painted_in p = rw (is.bytes, is.width, is.start, is.pixels) at p
 
@@ -204,14 +186,6 @@ module _ {s t : Span} {i n : ℕ} (is : IsPart s i n t) where
 
 -- ---- a background run
 
-pub insert-first : (insert : Option CodeInk) (bg : CodeInk) → ink_of (unwrap_or insert bg) ≡ insert_inks insert bg 0
-insert-first None bg = refl
-insert-first (Some fg) bg = refl
-
-pub insert_later : (insert : Option CodeInk) (bg : CodeInk) (j : ℕ) → (j ≡ 0 → ⊥) → ink_of bg ≡ insert_inks insert bg j
-insert_later None bg j later = refl
-insert_later (Some fg) bg j later = rw (ne_eqb j 0 later)
-
 -- an inserted pixel, and the background behind it
 pub inserted-painted : {s t : Span} {xs ys zs : List ℕ} → IsPart s 1 (s.pixels - 1) t → 1 ≤ s.pixels → (fg bg : CodeInk)
     → PaintedOne s.bytes s.width (ink_of fg) (s.start + 0) xs ys → Paints t (λ _. ink_of bg) ys zs → Paints s (insert_inks (Some fg) bg) xs zs
@@ -219,7 +193,7 @@ inserted-painted {s} is some fg bg first rest =
     let n : 1 + (s.pixels - 1) ≡ s.pixels = omega arith in
     painted_at n
     (painted_join _ _ _ 1 _ _ _ _ _ (first-painted _ _ _ (insert_inks (Some fg) bg) _ _ first)
-    (painted_as (λ j b. insert_later (Some fg) bg (1 + j) (λ e. omega arith)) (painted_in is rest)))
+    (painted_as (λ j b. rw (ne_eqb (1 + j) 0 (λ e. omega arith))) (painted_in is rest)))
 
 -- ---- masks and turns
 

@@ -12,4 +12,4 @@ returns-then-self-eq1 c = rw c.in-Some.is (painted_at (sym c.if-self-eq1.true) (
 
 pub returns : goal.returns
 returns c =
-    rw c.in-Some.is (inserted-painted c.part.ensures (omega arith) c.in-Some.fg c.args.bg c.paint_pixel.ensures c.paint_background-2.ensures)
+    rw c.in-Some.is (inserted-painted c.part.ensures (omega arith) c.in-Some.fg c.args.bg c.paint_pixel.ensures c.paint_many-2.ensures)
