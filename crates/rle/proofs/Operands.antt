@@ -4,6 +4,8 @@ use mathlib.Core.List.{List}
 use mathlib.Core.Bool.{Bool, true, false}
 use mathlib.Core.Logic.{◌⊎◌, inl, inr}
 use Prim.Native.Nat.{ℕ, ◌+◌, ◌-◌, ◌*◌, ◌≤◌}
+use Rattle.std.specs.Prelude.{Option, IfSome}
+use Rattle.std.specs.Bool.{then_some}
 use native.Mathlib.Omega.{arith}
 use lib.ListN.{length, drop}
 use Rattle.rle.specs.declared.kind.Kind.{Kind as CodeKind}
@@ -12,8 +14,6 @@ use Rattle.rle.specs.declared.state.State.{State as CodeState}
 use Rattle.rle.specs.declared.state.Stepped.{Stepped}
 use Rattle.rle.specs.declared.state.Frame.{Frame as CodeFrame}
 use Rattle.rle.specs.declared.plan.Plan.{Plan as CodePlan}
-use Rattle.rle.specs.declared.paint.Mode.TheVariants.{Above, AboveXor}
-use Rattle.rle.specs.declared.paint.Ink.{Ink as CodeInk}
 use Rattle.base.specs.Picks.{pick}
 use Rattle.picture.specs.Pixels.{Pixel, OfDepth}
 use Rattle.picture.specs.Sizes.{Frame}
@@ -22,15 +22,17 @@ use Rattle.definition.specs.Decode.{Ink, solid, mask_ink, order_of}
 use Rattle.definition.specs.Plan.{Counts, counts_of, leaves_insert, foreground_by, leaves, insert_in, image_ink, kind_ink}
 use Rattle.rle.specs.Kinds.{kind_in, sets_foreground}
 use Rattle.rle.specs.Planning.{counts_in}
-use Rattle.rle.specs.Painting.{HasPlace, Paintable, Painted, ink_of}
-use Rattle.rle.specs.States.{frame_of, fg_of, bg_of, with_fg, finished_of}
+use Rattle.rle.specs.declared.paint.Ink.{Ink as CodeInk}
+use Rattle.rle.specs.declared.span.Span.{Span}
+use Rattle.rle.specs.Painting.{Paintable, Painted, ink_of}
+use Rattle.rle.specs.States.{frame_of, fg_of, bg_of, with_fg, IsSpan, finished_of}
 use Rattle.rle.specs.Orders.{Ready, Executes}
 use Rattle.rle.specs.Operands.{HasOperands, ReadyToPaint}
 use Rattle.base.proofs.Tests.{apart}
 use Rattle.rle.proofs.Painting.{painted_as}
-use Rattle.rle.proofs.Inks.{row-reach, foreground_of_depth, fg-is, bg-is, black_of_depth}
+use Rattle.rle.proofs.Inks.{fg_paintable, bg_paintable, insert_paintable, foreground_of_depth, fg-is, bg-is, black_of_depth}
 use Rattle.rle.proofs.Numbers.{image_is}
-use Rattle.rle.proofs.Orders.{paintable, within, operands-read, image-operands, executes_finished}
+use Rattle.rle.proofs.Orders.{few_behind, all_fit, operands-read, image-operands, executes_finished}
 use Rattle.rle.proofs.Sharing.{IsSpecial, image_ink_lem, image-enough}
 
 -- ---- the operands
@@ -67,9 +69,32 @@ masks_left D n L pos (inr e) operands sized =
 
 -- ---- painting
 
--- where an ink can be painted, there is a place
-pub place_of_lem : {D w k n : ℕ} {xs : List ℕ} {ink : CodeInk} → Paintable D w k n xs ink → HasPlace D k n xs
-place_of_lem p = record { low = p.low; high = p.high; fits = p.fits }
+-- the span that is painted, and the state's inks in it
+module _ {src dst : List ℕ} {f : CodeFrame} {s : CodeState} {k : CodeKind} {n : ℕ} (ready : ReadyToPaint src dst f s k n) where
+  abbrev own : Span
+  own =
+      record {
+        bytes = f.depth.bytes;
+        width = f.width;
+        start = s.pixels;
+        pixels = n;
+        low = ready.low;
+        high = ready.high;
+        wide = ready.wide;
+        end = omega (arith, ready.few);
+      }
+
+  own_is : IsSpan f s n own
+  own_is = record { bytes = refl; width = refl; start = refl; pixels = refl }
+
+  pub ready_fg : {ink : CodeInk} → ink ≡ fg_of s → Paintable own ink
+  ready_fg e = rw e (fg_paintable own_is ready.row ready.foreground)
+
+  pub ready_bg : {ink : CodeInk} → ink ≡ bg_of f s → Paintable own ink
+  ready_bg e = rw e (bg_paintable own_is ready.row ready.black)
+
+  pub ready_insert : {ink : CodeInk} {insert : Option CodeInk} → ink ≡ fg_of s → insert ≡ then_some s.insert ink → IfSome insert (λ i. Paintable own i)
+  ready_insert fg is = rw (is, fg) (insert_paintable own_is ready.row ready.foreground)
 
 -- a white or black order's color is of the depth
 pub color_depth : (D : ℕ) {w b x : Pixel} {k : CodeKind} → (k ≡ kinds.White) ⊎ (k ≡ kinds.Black) → OfDepth D w → OfDepth D b
@@ -125,13 +150,16 @@ module _ (f : CodeFrame) (src dst : List ℕ) (s : CodeState) (c : CodeKind) {ow
     (plans : counts_in p ≡ counts_of f.depth.bytes (kind_in c) n (length src - s.pos) (f.total - s.pixels)) where
   pub ready_to_paint : ReadyToPaint src dst f (with_fg s own) c p.pixels
   ready_to_paint =
-      let w = within ready (kind_in c) (length src - s.pos) p plans in
       let inv = ready.invariant in
       record {
-        fg =
-            paintable dst p.pixels ready w.pixels _ (row-reach AboveXor inv)
-            (rw is-own (foreground_of_depth ready.frame inv.foreground (drop s.pos src) (leaves (kind_in c))));
-        bg = paintable dst p.pixels ready w.pixels _ (row-reach Above inv) (black_of_depth ready.frame);
+        low = ready.frame.low;
+        high = ready.frame.high;
+        wide = ready.frame.wide;
+        few = few_behind f dst ready (kind_in c) _ p plans;
+        fits = all_fit f dst ready (kind_in c) _ p plans;
+        row = inv.row;
+        foreground = rw is-own (foreground_of_depth ready.frame inv.foreground (drop s.pos src) (leaves (kind_in c)));
+        black = black_of_depth ready.frame;
         white = ready.frame.white;
         place = place;
         operands = has_operands f.depth.bytes n (length src - s.pos) (f.total - s.pixels) p c plans;

@@ -9,39 +9,22 @@ use lib.ListN.{length, drop, length-drop}
 use lib.Seq.{drop-drop}
 use Rattle.rle.specs.declared.state.State.{State as CodeState}
 use Rattle.rle.specs.declared.state.Stepped.{Stepped}
-use Rattle.rle.specs.declared.paint.Ink.{Ink as CodeInk}
+use Rattle.rle.specs.declared.span.Span.{Span}
+use Rattle.rle.specs.declared.state.Frame.{Frame as CodeFrame}
 use Rattle.rle.specs.declared.plan.Plan.{Plan as CodePlan}
-use Rattle.picture.specs.Pixels.{Pixel, OfDepth}
+use Rattle.picture.specs.Pixels.{Pixel}
 use Rattle.picture.specs.Sizes.{Frame}
 use Rattle.definition.specs.Orders.{Kind}
-use Rattle.definition.specs.Decode.{State, state, room, order_of}
+use Rattle.definition.specs.Decode.{Ink, State, state, room, order_of}
 use Rattle.definition.specs.Plan.{Counts, with_operands, run_counts, counts_of, leaves_insert, foreground_by, insert_after, orders_after, leaves}
 use Rattle.rle.specs.Planning.{counts_in, ending_in}
-use Rattle.rle.specs.Painting.{HasPlace, Paintable, Painted, reach}
-use Rattle.rle.specs.States.{state_of, with_fg, Fits, finished_of}
+use Rattle.rle.specs.Painting.{HasPlace, Painted, Paints}
+use Rattle.rle.specs.States.{frame_of, state_of, with_fg, IsSpan, Fits, finished_of}
 use Rattle.rle.specs.Orders.{Ready, Executes, step_in}
 use Rattle.picture.proofs.Pixels.{length-pixels_of}
 use Rattle.definition.proofs.Masks.{acted}
 use Rattle.definition.proofs.Planned.{ink_by, kind_acted, Within, kind-within, orders-few, operands-there, image-read, pairs_read}
 use Rattle.rle.proofs.Inks.{foreground_of_depth}
-
--- ---- where pixels can be painted
-
--- n pixels have a place, and can be painted
-module _ {f : Frame} {s : CodeState} {m : ℕ} (dst : List ℕ) (n : ℕ) (ready : Ready (length dst) f s m) (room : n ≤ f.total - s.pixels) where
-  pub has_place : HasPlace f.bytes s.pixels n dst
-  has_place =
-      let within = ready.invariant.within in
-      record {
-        low = ready.frame.low;
-        high = ready.frame.high;
-        fits = omega (arith, ready.frame.fits, within, mul-le-mul_right {m = s.pixels + n} {n = f.total} f.bytes (omega (arith, within)));
-      }
-
-  pub paintable : (ink : CodeInk) → reach ink.mode f.width ≤ s.pixels → OfDepth f.bytes ink.pixel
-      → Paintable f.bytes f.width s.pixels n dst ink
-  paintable ink r e =
-      record { low = has_place.low; high = has_place.high; wide = ready.frame.wide; fits = has_place.fits; row = r; pixel = e }
 
 -- ---- an order planned and painted
 
@@ -58,6 +41,25 @@ module _ {given : ℕ} {f : Frame} {s : CodeState} {n : ℕ} (ready : Ready give
         pixels = omega (arith, within.pixels, ready.frame.few, ready.invariant.within);
         counted = ready.invariant.counted;
       }
+
+-- the same with a target
+module _ (f : CodeFrame) (dst : List ℕ) {s : CodeState} {n : ℕ} (ready : Ready (length dst) (frame_of f) s n) (k : Kind) (a : ℕ) (p : CodePlan)
+    (plans : counts_in p ≡ counts_of f.depth.bytes k n a (f.total - s.pixels)) where
+  pub few_behind : s.pixels + p.pixels ≤ 67108864
+  few_behind = omega (arith, (within ready k a p plans).pixels, ready.frame.few, ready.invariant.within)
+
+  pub all_fit : (s.pixels + p.pixels) * f.depth.bytes ≤ length dst
+  all_fit =
+      let few : s.pixels + p.pixels ≤ f.total = omega (arith, (within ready k a p plans).pixels, ready.invariant.within) in
+      omega (arith, ready.frame.fits, mul-le-mul_right {m = s.pixels + p.pixels} {n = f.total} f.depth.bytes few)
+
+  pub has_place : {t : Span} → IsSpan f s p.pixels t → HasPlace t dst
+  has_place is = rw (is.bytes, is.start, is.pixels) all_fit
+
+-- the pixels that come next are those that an order paints
+pub next-painted : {f : CodeFrame} {s : CodeState} {n : ℕ} {t : Span} {ink : ℕ → Ink} {xs ys : List ℕ} → IsSpan f s n t → Paints t ink xs ys
+    → Painted f.depth.bytes f.width ink s.pixels n xs ys
+next-painted is p = rw (is.bytes, is.width, is.start, is.pixels) at p
 
 -- the same with another foreground
 pub fits_with : {s t : CodeState} {x : Pixel} {p : CodePlan} → t ≡ with_fg s x → Fits s p → Fits t p

@@ -15,7 +15,7 @@ use lib.Seq.{drop-drop}
 use Rattle.rle.specs.declared.state.State.{State as CodeState}
 use Rattle.rle.specs.declared.state.Frame.{Frame as CodeFrame}
 use Rattle.rle.specs.declared.state.Stepped.{Stepped}
-use Rattle.rle.specs.declared.paint.Mode.TheVariants.{AboveXor}
+use Rattle.rle.specs.declared.span.Span.{Span}
 use Rattle.rle.specs.declared.paint.Ink.{Ink as CodeInk}
 use Rattle.rle.specs.declared.plan.Plan.{Plan as CodePlan}
 use Rattle.base.specs.Picks.{pick}
@@ -26,14 +26,14 @@ use Rattle.definition.specs.Orders.{FgBgImage, SetFgBgImage}
 use Rattle.definition.specs.Decode.{Ink, solid, fg_ink, bg_ink, State, order_of}
 use Rattle.definition.specs.Plan.{Counts, behind, with_operands, run_counts, counts_of, leaves_insert, new_foreground, foreground_by, image_ink, kind_ink, leaves, insert_in, foreground_in}
 use Rattle.rle.specs.Planning.{counts_in}
-use Rattle.rle.specs.Painting.{Paintable, Painted, ink_of, MaskInks}
-use Rattle.rle.specs.States.{frame_of, state_of, fg_of, bg_of, with_fg, finished_of}
+use Rattle.rle.specs.Painting.{HasColor, Paintable, Painted, ink_of, zero_ink}
+use Rattle.rle.specs.States.{frame_of, fg_of, with_fg, IsSpan, finished_of}
 use Rattle.rle.specs.Orders.{Ready, Executes}
 use Rattle.rle.proofs.Painting.{painted_as}
 use Rattle.definition.proofs.Masks.{image-masks}
 use Rattle.definition.proofs.Planned.{ink_by, run-most}
-use Rattle.rle.proofs.Inks.{row-reach, foreground_of_depth, state-masks, fg-is, bg-is}
-use Rattle.rle.proofs.Orders.{paintable, within, Leaves, executes_finished}
+use Rattle.rle.proofs.Inks.{fg_paintable, fg_color, foreground_of_depth, fg-is, zero-is}
+use Rattle.rle.proofs.Orders.{Leaves, executes_finished}
 
 -- only a set-foreground order has a foreground of its own
 pub foreground_is : (D : ℕ) (k : CodeKind) (p : Pixel) (xs : List ℕ) → foreground_by D (kind_in k) p xs ≡ pick (sets_foreground k) (new_foreground D p xs) p
@@ -150,37 +150,28 @@ image-enough D n a R true =
     by_test (λ (c : Counts). c.pixels ≤ (a - D) * 8) (leb D a) (λ e. image-masks D n (a - D) R) (λ e. omega arith)
 image-enough D n a R false = omega (arith, image-masks D n a R)
 
--- u, i, j, size: the state, the inks and the foreground's bytes that the code has
-module _ (f : CodeFrame) (src dst : List ℕ) (s : CodeState) (t : Bool) {u : CodeState} {i j : CodeInk} {size : ℕ}
-    (state : u ≡ with_fg s (foreground_by f.depth.bytes (pick t SetFgBgImage FgBgImage) s.foreground (drop s.pos src))) (fg : i ≡ fg_of u) (bg : j ≡ bg_of f u)
-    (sized : size ≡ pick t f.depth.bytes 0) where
-  pub image_inks : (k n : ℕ) {after : List ℕ} → Painted f.depth.bytes f.width (image_ink (ink_of i) (ink_of j) (drop (s.pos + size) src)) k n dst after
-      → Painted f.depth.bytes f.width (ink_by (frame_of f) (pick t SetFgBgImage FgBgImage) (state_of (frame_of f) src dst s)) k n dst after
-  image_inks k n p =
-      painted_as
-      (λ m _. (λ h. image_ink (fg-is s state fg h) (bg-is f s state bg h) (drop (s.pos + sized h) src) m)
-      ∙ image_ink_lem (frame_of f) _ _ _ s.pos src t m)
-      p
+-- u, i, size: the state, the foreground's ink and its bytes that the code has
+module _ (f : CodeFrame) (src dst : List ℕ) (s : CodeState) (t : Bool) {u : CodeState} {i : CodeInk} {size : ℕ}
+    (state : u ≡ with_fg s (foreground_by f.depth.bytes (pick t SetFgBgImage FgBgImage) s.foreground (drop s.pos src))) (fg : i ≡ fg_of u)
+    (sized : size ≡ pick t f.depth.bytes 0) {n : ℕ} (ready : Ready (length dst) (frame_of f) s n) (p : CodePlan)
+    (plans : counts_in p ≡ counts_of f.depth.bytes (pick t SetFgBgImage FgBgImage) n (length src - s.pos) (f.total - s.pixels)) where
+  pub image_paintable : {span : Span} → IsSpan f s p.pixels span → Paintable span i × HasColor i
+  image_paintable is =
+      rw (fg, state)
+      (fg_paintable is ready.invariant.row (foreground_of_depth ready.frame ready.invariant.foreground (drop s.pos src) (leaves (pick t SetFgBgImage FgBgImage))), fg_color (with_fg s (foreground_by f.depth.bytes (pick t SetFgBgImage FgBgImage) s.foreground (drop s.pos src))))
 
-  pub image_paintable : {n : ℕ} → Ready (length dst) (frame_of f) s n → (p : CodePlan)
-      → counts_in p ≡ counts_of f.depth.bytes (pick t SetFgBgImage FgBgImage) n (length src - s.pos) (f.total - s.pixels)
-      → Paintable f.depth.bytes f.width s.pixels p.pixels dst i
-      × ((p.pixels ≤ (length src - (s.pos + size)) * 8) × MaskInks i j)
-  image_paintable {n} ready p plans =
-      let k = pick t SetFgBgImage FgBgImage in
-      let w = within ready k (length src - s.pos) p plans in
-      let inv = ready.invariant in
+  pub image_masks : p.pixels ≤ (length src - (s.pos + size)) * 8
+  image_masks =
       let enough = subst (λ (c : Counts). c.pixels ≤ (length src - s.pos - pick t f.depth.bytes 0) * 8) (sym plans)
-      (image-enough f.depth.bytes n (length src - s.pos) (f.total - s.pixels) t) in (
-        rw (fg, state)
-            (paintable dst p.pixels ready w.pixels _ (row-reach AboveXor inv) (foreground_of_depth ready.frame inv.foreground (drop s.pos src) (leaves k))),
-        (rw sized (omega (arith, enough)), state-masks u f ready.frame.black fg bg),
-      )
+      (image-enough f.depth.bytes n (length src - s.pos) (f.total - s.pixels) t) in
+      rw sized (omega (arith, enough))
 
-  pub image_executes : {n : ℕ} → Ready (length dst) (frame_of f) s n → s.pos ≤ length src → (p : CodePlan)
-      → counts_in p ≡ counts_of f.depth.bytes (pick t SetFgBgImage FgBgImage) n (length src - s.pos) (f.total - s.pixels)
-      → {r : Stepped} {after : List ℕ} → r ≡ finished_of u p false
-      → Painted f.depth.bytes f.width (image_ink (ink_of i) (ink_of j) (drop (s.pos + size) src)) s.pixels p.pixels dst after
+  pub image_executes : s.pos ≤ length src → {r : Stepped} {after : List ℕ} → r ≡ finished_of u p false
+      → Painted f.depth.bytes f.width (image_ink (ink_of i) (zero_ink i) (drop (s.pos + size) src)) s.pixels p.pixels dst after
       → Executes (frame_of f) src dst after s r (order_of (frame_of f) (pick t SetFgBgImage FgBgImage) n)
-  image_executes ready place p plans is painted =
-      executes_finished _ _ _ ready place _ p plans (record { state = state; insert = image-leaves t }) is (image_inks _ _ painted)
+  image_executes place is painted =
+      executes_finished _ _ _ ready place _ p plans (record { state = state; insert = image-leaves t }) is
+      (painted_as
+      (λ m _. (λ h. image_ink (fg-is s state fg h) (zero-is f s ready.frame.black state fg h) (drop (s.pos + sized h) src) m)
+      ∙ image_ink_lem (frame_of f) _ _ _ s.pos src t m)
+      painted)

@@ -9,7 +9,6 @@ ghost use Rattle.rle.specs.States.{frame_of, with_fg};
 ghost use Rattle.rle.specs.Orders.{Ready, Executes};
 
 use crate::kind::Kind;
-use crate::paint::{paint_image, paint_masks, paint_whole_masks};
 use crate::plan::foreground_size;
 use crate::state::{Frame, State, Stepped};
 
@@ -18,12 +17,11 @@ pub(crate) fn color_image(src: &[u8], dst: &mut [u8], f: Frame, s: State, n: usi
     requires pos_in_bounds { s.pos ≤ length src.now }
     ensures { Executes (frame_of f) src.now dst.old dst.new s result (decode.order_of (frame_of f) orders.Kind.ColorImage n) }
 {
-    let d = f.depth.bytes;
     let p = f.room(s.pixels).color_image(n, src.len() - s.pos);
     if p.pixels == 0 {
         return s.finished(p, false);
     }
-    paint_image(src, s.pos, dst, d, s.pixels, p.pixels);
+    s.span(f, p.pixels).paint_image(src, s.pos, dst);
     s.finished(p, false)
 }
 
@@ -43,20 +41,10 @@ pub(crate) fn special_fgbg(dst: &mut [u8], f: Frame, s: State, kind: Kind) -> St
     requires special { (kind ≡ SpecialFgBg1) ⊎ (kind ≡ SpecialFgBg2) }
     ensures { (src : List ℕ) → s.pos ≤ length src → Executes (frame_of f) src dst.old dst.new s result (decode.order_of (frame_of f) (kind_in kind) 8) }
 {
-    let d = f.depth.bytes;
     let p = f.room(s.pixels).run(8);
     let masks = [special_mask(kind)];
-    paint_whole_masks(
-        &masks,
-        0,
-        dst,
-        d,
-        f.width,
-        s.pixels,
-        p.pixels / 8,
-        s.fg_ink(),
-        s.bg_ink(f),
-    );
+    s.span(f, p.pixels)
+        .paint_whole_masks(&masks, 0, dst, s.fg_ink());
     s.finished(p, false)
 }
 
@@ -88,16 +76,7 @@ pub(crate) fn fgbg_image(
     let d = f.depth.bytes;
     let p = f.room(s.pixels).fgbg_image(kind, n, src.len() - s.pos);
     let t = image_foreground(src, d, s, kind);
-    paint_masks(
-        src,
-        s.pos + foreground_size(d, kind),
-        dst,
-        d,
-        f.width,
-        s.pixels,
-        p.pixels,
-        t.fg_ink(),
-        t.bg_ink(f),
-    );
+    let masks = s.pos + foreground_size(d, kind);
+    s.span(f, p.pixels).paint_masks(src, masks, dst, t.fg_ink());
     t.finished(p, false)
 }

@@ -22,6 +22,7 @@ pub(crate) mod plan;
 pub mod record;
 pub mod report;
 pub(crate) mod run;
+pub(crate) mod span;
 pub(crate) mod state;
 pub mod walk;
 

@@ -2,7 +2,7 @@
 // the crate two_decoders has that as the contract of two calls.
 //
 // It shares no function that takes a state with the other decoder: its loop and its orders write the state's fields themselves. What
-// both call takes numbers, bytes, a kind, a frame, a room or an ink: heads, plans, single pixels, the report.
+// both call takes numbers, bytes, a kind, a frame, a room, a span or an ink: heads, plans, single pixels, the report.
 ghost use Rattle.rle.specs.Report.{Decompresses};
 
 pub(crate) mod beside;

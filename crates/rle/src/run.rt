@@ -1,7 +1,7 @@
 // Orders that paint runs, and single pixels. Each plans the order, paints the pixels that the plan says, and ends as the plan says.
 //
-// Where a plan says none, the order is refused. Orders of colors that the stream has end there, before they paint, so that the compiler
-// carries no refusal past the painting; the others leave it to their painter, which took fewer instructions.
+// Where a plan says none, the order is refused. Orders of colors that the stream or the depth has end there, before they paint, so that
+// the compiler carries no refusal past the painting; the others leave it to their painter, which took fewer instructions.
 ghost use Rattle.std.specs.Prelude.{◌≡◌, ◌⊎◌, List, ℕ, ◌≤◌, length};
 ghost use Rattle.definition.specs.Orders as orders;
 ghost use Rattle.definition.specs.Decode as decode;
@@ -11,7 +11,7 @@ ghost use Rattle.rle.specs.States.{frame_of};
 ghost use Rattle.rle.specs.Orders.{Ready, Executes};
 
 use crate::kind::Kind;
-use crate::paint::{paint_bg_run, paint_dithered, paint_fg_run, paint_run, paint_single, solid};
+use crate::paint::Ink;
 use crate::pixel::read_pixel;
 use crate::state::{Frame, State, Stepped};
 
@@ -19,18 +19,9 @@ pub(crate) fn bg_run(dst: &mut [u8], f: Frame, s: State, n: usize) -> Stepped
     requires { Ready (length dst.old) (frame_of f) s n }
     ensures { (src : List ℕ) → s.pos ≤ length src → Executes (frame_of f) src dst.old dst.new s result (decode.order_of (frame_of f) orders.Kind.BgRun n) }
 {
-    let d = f.depth.bytes;
     let p = f.room(s.pixels).run(n);
-    paint_bg_run(
-        dst,
-        d,
-        f.width,
-        s.pixels,
-        p.pixels,
-        s.insert,
-        s.fg_ink(),
-        s.bg_ink(f),
-    );
+    let span = s.span(f, p.pixels);
+    span.paint_bg_run(dst, s.insert_ink(), s.bg_ink(f));
     s.finished(p, true)
 }
 
@@ -38,9 +29,8 @@ pub(crate) fn fg_run(dst: &mut [u8], f: Frame, s: State, n: usize) -> Stepped
     requires { Ready (length dst.old) (frame_of f) s n }
     ensures { (src : List ℕ) → s.pos ≤ length src → Executes (frame_of f) src dst.old dst.new s result (decode.order_of (frame_of f) orders.Kind.FgRun n) }
 {
-    let d = f.depth.bytes;
     let p = f.room(s.pixels).run(n);
-    paint_fg_run(dst, d, f.width, s.pixels, p.pixels, s.fg_ink());
+    s.span(f, p.pixels).paint_fg_run(dst, s.fg_ink());
     s.finished(p, false)
 }
 
@@ -49,10 +39,9 @@ pub(crate) fn set_fg_run(src: &[u8], dst: &mut [u8], f: Frame, s: State, n: usiz
     requires pos_in_bounds { s.pos ≤ length src.now }
     ensures { Executes (frame_of f) src.now dst.old dst.new s result (decode.order_of (frame_of f) orders.Kind.SetFgRun n) }
 {
-    let d = f.depth.bytes;
     let p = f.room(s.pixels).pixel_run(n, src.len() - s.pos);
-    let t = s.new_foreground(src, d);
-    paint_fg_run(dst, d, f.width, s.pixels, p.pixels, t.fg_ink());
+    let t = s.new_foreground(src, f.depth.bytes);
+    s.span(f, p.pixels).paint_fg_run(dst, t.fg_ink());
     t.finished(p, false)
 }
 
@@ -61,13 +50,12 @@ pub(crate) fn color_run(src: &[u8], dst: &mut [u8], f: Frame, s: State, n: usize
     requires pos_in_bounds { s.pos ≤ length src.now }
     ensures { Executes (frame_of f) src.now dst.old dst.new s result (decode.order_of (frame_of f) orders.Kind.ColorRun n) }
 {
-    let d = f.depth.bytes;
     let p = f.room(s.pixels).pixel_run(n, src.len() - s.pos);
     if p.pixels == 0 {
         return s.finished(p, false);
     }
-    let color = read_pixel(src, d, s.pos);
-    paint_run(dst, d, f.width, s.pixels, p.pixels, solid(color));
+    let color = read_pixel(src, f.depth.bytes, s.pos);
+    s.span(f, p.pixels).paint_run(dst, Ink::Solid(color));
     s.finished(p, false)
 }
 
@@ -83,7 +71,7 @@ pub(crate) fn dithered_run(src: &[u8], dst: &mut [u8], f: Frame, s: State, n: us
     }
     let a = read_pixel(src, d, s.pos);
     let b = read_pixel(src, d, s.pos + d);
-    paint_dithered(dst, d, s.pixels, p.pixels, a, b);
+    s.span(f, p.pixels).paint_dithered(dst, a, b);
     s.finished(p, false)
 }
 
@@ -104,8 +92,11 @@ pub(crate) fn one_pixel(dst: &mut [u8], f: Frame, s: State, kind: Kind) -> Stepp
     requires pixel { (kind ≡ White) ⊎ ((kind ≡ Black) ⊎ (kind ≡ NoOrder)) }
     ensures { (src : List ℕ) → s.pos ≤ length src → Executes (frame_of f) src dst.old dst.new s result (decode.order_of (frame_of f) (kind_in kind) 1) }
 {
-    let d = f.depth.bytes;
     let p = f.room(s.pixels).pixel(kind);
-    paint_single(dst, d, s.pixels, p.pixels, white_or_black(f, kind));
+    if p.pixels == 0 {
+        return s.finished(p, false);
+    }
+    s.span(f, p.pixels)
+        .paint_pixel(dst, 0, Ink::Solid(white_or_black(f, kind)));
     s.finished(p, false)
 }

@@ -1,12 +1,13 @@
 // The decoder's frame and state, and what its orders paint with.
-ghost use Rattle.std.specs.Prelude.{◌≡◌, ◌-◌, ◌≤◌, length, drop};
+ghost use Rattle.std.specs.Prelude.{◌≡◌, ◌+◌, ◌-◌, ◌≤◌, length, drop};
 ghost use Rattle.picture.specs.Sizes.{checked};
 ghost use Rattle.definition.specs.Plan as plan;
-ghost use Rattle.rle.specs.States.{checked_in, row_ink, fg_of, bg_of, with_fg, start_of, at_pos, completed_in, refused_in, first_row_ended, Fits, finished_of};
+ghost use Rattle.rle.specs.States.{checked_in, fg_of, bg_of, insert_of, with_fg, IsSpan, start_of, at_pos, completed_in, refused_in, first_row_ended, Fits, finished_of};
 
-use crate::paint::{Ink, Mode, solid};
+use crate::paint::Ink;
 use crate::pixel::read_pixel;
 use crate::plan::{Plan, Room};
+use crate::span::Span;
 use picture::{Depth, RleError, depth_of, picture_size};
 
 // What a picture's orders go by: its depth, its width, and its pixels.
@@ -136,18 +137,47 @@ impl State {
         }
     }
 
+    // The foreground's ink.
     pub(crate) fn fg_ink(self) -> Ink
         ensures { result ≡ fg_of self }
     {
         let foreground = self.foreground;
-        row_ink(self.first_row, Mode::AboveXor, foreground)
+        if self.first_row {
+            return Ink::Solid(foreground);
+        }
+        Ink::AboveXor(foreground)
     }
 
+    // The background's ink.
     pub(crate) fn bg_ink(self, f: Frame) -> Ink
         ensures { result ≡ bg_of f self }
     {
         let black = f.depth.black;
-        row_ink(self.first_row, Mode::Above, black)
+        if self.first_row {
+            return Ink::Solid(black);
+        }
+        Ink::Above
+    }
+
+    // The ink of the pixel that a background run begins with where an insert is pending.
+    pub(crate) fn insert_ink(self) -> Option<Ink>
+        ensures { result ≡ insert_of self }
+    {
+        self.insert.then_some(self.fg_ink())
+    }
+
+    // The n pixels that come next.
+    pub(crate) fn span(self, f: Frame, n: usize) -> Span
+        requires frame { (1 ≤ f.depth.bytes) × (f.depth.bytes ≤ 3) × (1 ≤ f.width) }
+        requires few { self.pixels + n ≤ 67108864 }
+        ensures { IsSpan f self n result }
+    {
+        Span {
+            bytes: f.depth.bytes,
+            width: f.width,
+            start: self.pixels,
+            pixels: n,
+        }
     }
 
     // The state with the foreground that stands next in the stream, where its bytes are there.
@@ -160,18 +190,5 @@ impl State {
             self.foreground = p;
         }
         self
-    }
-}
-
-// In the first row a color; later by the pixel above, in the mode `later`.
-pub(crate) fn row_ink(first: bool, later: Mode, p: [u8; 3]) -> Ink
-    ensures { result ≡ row_ink first later p }
-{
-    if first {
-        return solid(p);
-    }
-    Ink {
-        mode: later,
-        pixel: p,
     }
 }

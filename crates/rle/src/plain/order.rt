@@ -10,14 +10,15 @@ ghost use Rattle.rle.specs.Operands.{ReadyToPaint};
 
 use crate::image::special_mask;
 use crate::kind::Kind;
-use crate::paint::{Mode, solid};
+use crate::paint::Ink;
 use crate::pixel::read_pixel;
 use crate::plain::paint::{
     paint_bg_run, paint_dithered, paint_image, paint_mask, paint_masks, paint_run,
 };
 use crate::plan::foreground_size;
 use crate::run::white_or_black;
-use crate::state::{Frame, State, Stepped, row_ink};
+use crate::span::Span;
+use crate::state::{Frame, State, Stepped};
 
 // The foreground that the order leaves: the one that stands first in its operands, if it reads one and its bytes are there, else p.
 pub(crate) fn order_foreground(src: &[u8], d: usize, pos: usize, kind: Kind, p: [u8; 3]) -> [u8; 3]
@@ -30,6 +31,18 @@ pub(crate) fn order_foreground(src: &[u8], d: usize, pos: usize, kind: Kind, p: 
     p
 }
 
+// The inks of the foreground and the background: in the first row colors, later by the pixel above.
+pub(crate) fn row_inks(f: Frame, s: State) -> (Ink, Ink)
+    ensures { (result.0 ≡ fg_of s) × (result.1 ≡ bg_of f s) }
+{
+    let foreground = s.foreground;
+    let black = f.depth.black;
+    if s.first_row {
+        return (Ink::Solid(foreground), Ink::Solid(black));
+    }
+    (Ink::AboveXor(foreground), Ink::Above)
+}
+
 // The order's n pixels, in the state with its foreground.
 pub(crate) fn paint_order(src: &[u8], dst: &mut [u8], f: Frame, s: State, kind: Kind, n: usize)
     requires { ReadyToPaint src.now dst.old f s kind n }
@@ -40,30 +53,31 @@ pub(crate) fn paint_order(src: &[u8], dst: &mut [u8], f: Frame, s: State, kind: 
     }
     let d = f.depth.bytes;
     let w = f.width;
-    let k = s.pixels;
     let pos = s.pos;
-    let foreground = s.foreground;
-    let black = f.depth.black;
-    let fg = row_ink(s.first_row, Mode::AboveXor, foreground);
-    let bg = row_ink(s.first_row, Mode::Above, black);
+    let span = Span {
+        bytes: d,
+        width: w,
+        start: s.pixels,
+        pixels: n,
+    };
+    let (fg, bg) = row_inks(f, s);
     match kind {
-        Kind::BgRun => paint_bg_run(dst, d, w, k, n, s.insert, fg, bg),
-        Kind::FgRun | Kind::SetFgRun => paint_run(dst, d, w, k, n, fg),
+        Kind::BgRun => paint_bg_run(dst, span, s.insert.then_some(fg), bg),
+        Kind::FgRun | Kind::SetFgRun => paint_run(dst, span, fg),
         Kind::FgBgImage | Kind::SetFgBgImage => {
-            let masks = pos + foreground_size(d, kind);
-            paint_masks(src, masks, dst, d, w, k, n, fg, bg)
+            paint_masks(src, pos + foreground_size(d, kind), dst, span, fg, bg)
         }
         Kind::SpecialFgBg1 | Kind::SpecialFgBg2 => {
-            paint_mask(dst, d, w, k, n, special_mask(kind), fg, bg)
+            paint_mask(dst, span, special_mask(kind), fg, bg)
         }
-        Kind::ColorRun => paint_run(dst, d, w, k, n, solid(read_pixel(src, d, pos))),
-        Kind::ColorImage => paint_image(src, pos, dst, d, k, n),
+        Kind::ColorRun => paint_run(dst, span, Ink::Solid(read_pixel(src, d, pos))),
+        Kind::ColorImage => paint_image(src, pos, dst, span),
         Kind::DitheredRun => {
             let a = read_pixel(src, d, pos);
             let b = read_pixel(src, d, pos + d);
-            paint_dithered(dst, d, k, n, a, b)
+            paint_dithered(dst, span, a, b)
         }
-        Kind::White | Kind::Black => { paint_run(dst, d, w, k, n, solid(white_or_black(f, kind))) }
+        Kind::White | Kind::Black => paint_run(dst, span, Ink::Solid(white_or_black(f, kind))),
         Kind::NoOrder => {}
     }
 }

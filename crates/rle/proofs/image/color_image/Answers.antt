@@ -4,7 +4,7 @@ use native.Mathlib.Omega.{arith}
 use Rattle.definition.specs.Orders.{ColorImage}
 use Rattle.definition.specs.Plan.{counts_of, kind_ink, leaves, insert_in, foreground_in}
 use Rattle.rle.proofs.Painting.{painted-zero}
-use Rattle.rle.proofs.Orders.{within, fits, image-operands, executes_finished, has_place}
+use Rattle.rle.proofs.Orders.{fits, image-operands, executes_finished, few_behind, has_place, next-painted}
 use Rattle.rle.proofs.image.color_image.Goals as goal
 
 pub finished-requires : goal.finished-requires
@@ -18,11 +18,18 @@ returns-then-p-eq0 c =
     executes_finished _ _ _ c.requires.ready c.requires.pos_in_bounds ColorImage c.color_image-p.result (rw (c.room.ensures.0, c.room.ensures.1) at c.color_image-p.ensures) (record { state = refl; insert = refl }) c.finished.ensures
     (painted-zero c.if-p-eq0.true)
 
+pub span-requires-clause-few : goal.span-requires-clause-few
+unfolding counts_of
+span-requires-clause-few c = few_behind c.args.f c.args.dst.now c.requires.ready ColorImage _ c.color_image-p.result (rw (c.room.ensures.0, c.room.ensures.1) at c.color_image-p.ensures)
+
 pub paint_image-requires : goal.paint_image-requires
 unfolding counts_of
 paint_image-requires c =
-    let w = within c.requires.ready ColorImage _ c.color_image-p.result (rw (c.room.ensures.0, c.room.ensures.1) at c.color_image-p.ensures) in
-    record { has_place = has_place c.args.dst.now _ c.requires.ready w.pixels; d_in_bounds = omega (arith, image-operands _ c.color_image-p.result _ c.args.n _ (rw (c.room.ensures.0, c.room.ensures.1) at c.color_image-p.ensures)) }
+    let is = c.span.ensures in
+    record {
+      place = has_place c.args.f c.args.dst.now c.requires.ready ColorImage _ c.color_image-p.result (rw (c.room.ensures.0, c.room.ensures.1) at c.color_image-p.ensures) is;
+      operands = rw (is.bytes, is.pixels) (omega (arith, image-operands _ c.color_image-p.result _ c.args.n _ (rw (c.room.ensures.0, c.room.ensures.1) at c.color_image-p.ensures)));
+    }
 
 pub finished-requires-2 : goal.finished-requires-2
 unfolding counts_of
@@ -33,4 +40,4 @@ pub returns : goal.returns
 unfolding counts_of foreground_in insert_in kind_ink leaves
 returns c =
     executes_finished _ _ _ c.requires.ready c.requires.pos_in_bounds ColorImage c.color_image-p.result (rw (c.room.ensures.0, c.room.ensures.1) at c.color_image-p.ensures) (record { state = refl; insert = refl }) c.finished-2.ensures
-    (c.paint_image.ensures _)
+    (rw c.span.ensures.bytes at (next-painted c.span.ensures c.paint_image.ensures))

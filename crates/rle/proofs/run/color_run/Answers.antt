@@ -1,10 +1,11 @@
 -- `color_run` meets its contract: the run is painted as planned, in the color that it reads. Assumes nothing.
-use mathlib.Core.Path.{refl}
+use mathlib.Core.Path.{refl, ap}
 use native.Mathlib.Omega.{arith}
 use Rattle.definition.specs.Orders.{ColorRun}
+use Rattle.definition.specs.Decode.{solid}
 use Rattle.definition.specs.Plan.{counts_of, kind_ink, leaves, insert_in, foreground_in}
-use Rattle.rle.proofs.Painting.{painted-zero, painted_as, solid_paintable, solid-is, read_of_depth}
-use Rattle.rle.proofs.Orders.{within, fits, operands-read, executes_finished, has_place}
+use Rattle.rle.proofs.Painting.{painted-zero, painted_as, read_of_depth}
+use Rattle.rle.proofs.Orders.{fits, operands-read, executes_finished, few_behind, has_place, next-painted}
 use Rattle.rle.proofs.run.color_run.Goals as goal
 
 pub finished-requires : goal.finished-requires
@@ -23,12 +24,18 @@ unfolding counts_of
 read_pixel-color-requires c =
     (c.requires.ready.frame.low, c.requires.ready.frame.high, omega (arith, operands-read _ c.pixel_run-p.result _ _ (rw (c.room.ensures.0, c.room.ensures.1) at c.pixel_run-p.ensures) (omega arith)))
 
+pub span-requires-clause-few : goal.span-requires-clause-few
+unfolding counts_of
+span-requires-clause-few c = few_behind c.args.f c.args.dst.now c.requires.ready ColorRun _ c.pixel_run-p.result (rw (c.room.ensures.0, c.room.ensures.1) at c.pixel_run-p.ensures)
+
 pub paint_run-requires : goal.paint_run-requires
 unfolding counts_of
 paint_run-requires c =
-    let w = within c.requires.ready ColorRun _ c.pixel_run-p.result (rw (c.room.ensures.0, c.room.ensures.1) at c.pixel_run-p.ensures) in
-    solid_paintable _ (has_place c.args.dst.now _ c.requires.ready w.pixels) c.requires.ready.frame.wide
-    (read_of_depth _ c.requires.ready.frame.low c.requires.ready.frame.high c.read_pixel-color.ensures) c.solid.ensures
+    let frame = c.requires.ready.frame in
+    record {
+      place = has_place c.args.f c.args.dst.now c.requires.ready ColorRun _ c.pixel_run-p.result (rw (c.room.ensures.0, c.room.ensures.1) at c.pixel_run-p.ensures) c.span.ensures;
+      paintable = rw c.span.ensures.bytes (read_of_depth _ frame.low frame.high c.read_pixel-color.ensures);
+    }
 
 pub finished-requires-2 : goal.finished-requires-2
 unfolding counts_of
@@ -39,4 +46,4 @@ pub returns : goal.returns
 unfolding counts_of foreground_in insert_in kind_ink leaves
 returns c =
     executes_finished _ _ _ c.requires.ready c.requires.pos_in_bounds ColorRun c.pixel_run-p.result (rw (c.room.ensures.0, c.room.ensures.1) at c.pixel_run-p.ensures) (record { state = refl; insert = refl }) c.finished-2.ensures
-    (painted_as (λ _ _. solid-is c.solid.ensures c.read_pixel-color.ensures) c.paint_run.ensures)
+    (painted_as (λ _ _. ap solid c.read_pixel-color.ensures) (next-painted c.span.ensures c.paint_run.ensures))

@@ -9,7 +9,7 @@ use Rattle.definition.specs.Orders.{DitheredRun}
 use Rattle.definition.specs.Decode.{dither_ink}
 use Rattle.definition.specs.Plan.{counts_of, kind_ink, leaves, insert_in, foreground_in}
 use Rattle.rle.proofs.Painting.{painted-zero, painted_as, read_of_depth}
-use Rattle.rle.proofs.Orders.{within, fits, operands-read, pairs_even, executes_finished, has_place}
+use Rattle.rle.proofs.Orders.{fits, operands-read, pairs_even, executes_finished, few_behind, has_place, next-painted}
 use Rattle.rle.proofs.run.dithered_run.Goals as goal
 
 pub finished-requires : goal.finished-requires
@@ -33,12 +33,22 @@ unfolding counts_of
 read_pixel-b-requires c =
     (c.requires.ready.frame.low, c.requires.ready.frame.high, omega (arith, operands-read _ c.dithered_run-p.result _ _ (rw (c.room.ensures.0, c.room.ensures.1) at c.dithered_run-p.ensures) (omega arith)))
 
+pub span-requires-clause-few : goal.span-requires-clause-few
+unfolding counts_of
+span-requires-clause-few c = few_behind c.args.f c.args.dst.now c.requires.ready DitheredRun _ c.dithered_run-p.result (rw (c.room.ensures.0, c.room.ensures.1) at c.dithered_run-p.ensures)
+
 pub paint_dithered-requires : goal.paint_dithered-requires
 unfolding counts_of
 paint_dithered-requires c =
-    let w = within c.requires.ready DitheredRun _ c.dithered_run-p.result (rw (c.room.ensures.0, c.room.ensures.1) at c.dithered_run-p.ensures) in
-    let low = c.requires.ready.frame.low in
-    let high = c.requires.ready.frame.high in record { has_place = has_place c.args.dst.now _ c.requires.ready w.pixels; n_value = (pairs_even _ c.dithered_run-p.result _ _ _ _ (rw (c.room.ensures.0, c.room.ensures.1) at c.dithered_run-p.ensures), read_of_depth _ low high c.read_pixel-a.ensures, read_of_depth _ low high c.read_pixel-b.ensures) }
+    let frame = c.requires.ready.frame in
+    let is = c.span.ensures in
+    record {
+      place = has_place c.args.f c.args.dst.now c.requires.ready DitheredRun _ c.dithered_run-p.result (rw (c.room.ensures.0, c.room.ensures.1) at c.dithered_run-p.ensures) is;
+      even = rw is.pixels (pairs_even _ c.dithered_run-p.result _ _ _ _ (rw (c.room.ensures.0, c.room.ensures.1) at c.dithered_run-p.ensures));
+      of_depth =
+          rw is.bytes
+          (read_of_depth _ frame.low frame.high c.read_pixel-a.ensures, read_of_depth _ frame.low frame.high c.read_pixel-b.ensures);
+    }
 
 pub finished-requires-2 : goal.finished-requires-2
 unfolding counts_of
@@ -51,4 +61,4 @@ returns c =
     let first = c.read_pixel-a.ensures in
     let second = c.read_pixel-b.ensures ∙ ap (λ (l : List ℕ). first_pixel c.args.f.depth.bytes l) (sym (drop-drop c.args.f.depth.bytes c.args.s.pos c.args.src.now)) in
     executes_finished _ _ _ c.requires.ready c.requires.pos_in_bounds DitheredRun c.dithered_run-p.result (rw (c.room.ensures.0, c.room.ensures.1) at c.dithered_run-p.ensures) (record { state = refl; insert = refl }) c.finished-2.ensures
-    (painted_as (λ j _ h. dither_ink (first h) (second h) j) (c.paint_dithered.ensures _))
+    (painted_as (λ j _ h. dither_ink (first h) (second h) j) (next-painted c.span.ensures c.paint_dithered.ensures))

@@ -1,33 +1,46 @@
 -- `one_pixel` meets its contract: one pixel or none is painted as planned. Assumes nothing.
-use mathlib.Core.Path.{◌∙◌}
+use mathlib.Core.Path.{◌≡◌, sym, ◌∙◌}
 use native.Mathlib.Omega.{arith}
 use Rattle.rle.specs.Kinds.{kind_in}
 use Rattle.rle.specs.States.{frame_of, state_of}
-use Rattle.rle.proofs.Painting.{painted_as}
-use Rattle.rle.proofs.Orders.{within, fits, executes_finished, has_place}
+use Rattle.rle.proofs.Painting.{painted-zero, painted_at, painted_as, first-painted}
+use Rattle.rle.proofs.Orders.{fits, executes_finished, few_behind, has_place}
 use Rattle.rle.proofs.Sharing.{pixel-leaves, pixel-few, pixel_ink, pixel_counts, pixel-depth}
 use Rattle.rle.proofs.Inks.{black_of_depth}
 use Rattle.rle.proofs.run.one_pixel.Goals as goal
 
-pub paint_single-requires : goal.paint_single-requires
-paint_single-requires c =
-    let plans = rw (c.room.ensures.0, c.room.ensures.1) at c.pixel-p.ensures in
-    let w = within c.requires.ready (kind_in c.args.kind) 0 c.pixel-p.result plans in
+pub finished-requires : goal.finished-requires
+finished-requires c = fits c.requires.ready (kind_in c.args.kind) 0 c.pixel-p.result (rw (c.room.ensures.0, c.room.ensures.1) at c.pixel-p.ensures) (omega arith)
+
+pub returns-then-p-eq0 : goal.returns-then-p-eq0
+returns-then-p-eq0 c = λ src place.
+    executes_finished src _ _ c.requires.ready place (kind_in c.args.kind) c.pixel-p.result ((rw (c.room.ensures.0, c.room.ensures.1) at c.pixel-p.ensures) ∙ pixel_counts _ _ _ _ c.requires.pixel) (pixel-leaves _ _ _ c.requires.pixel) c.finished.ensures
+    (painted-zero c.if-p-eq0.true)
+
+pub span-requires-clause-few : goal.span-requires-clause-few
+span-requires-clause-few c = few_behind c.args.f c.args.dst.now c.requires.ready (kind_in c.args.kind) 0 c.pixel-p.result (rw (c.room.ensures.0, c.room.ensures.1) at c.pixel-p.ensures)
+
+pub paint_pixel-requires : goal.paint_pixel-requires
+paint_pixel-requires c =
+    let ready = c.requires.ready in
+    let is = c.span.ensures in
+    let color = c.white_or_black.ensures in
     record {
-      has_place = has_place c.args.dst.now _ c.requires.ready w.pixels;
-      n_bound = (
-        pixel-few (frame_of c.args.f) _ _ c.pixel-p.result c.requires.pixel plans,
-        pixel-depth _ c.requires.pixel c.requires.ready.frame.white (black_of_depth c.requires.ready.frame) c.white_or_black.ensures.white c.white_or_black.ensures.black,
-      );
+      place = has_place c.args.f c.args.dst.now ready (kind_in c.args.kind) 0 c.pixel-p.result (rw (c.room.ensures.0, c.room.ensures.1) at c.pixel-p.ensures) is;
+      paintable = rw is.bytes (pixel-depth _ c.requires.pixel ready.frame.white (black_of_depth ready.frame) color.white color.black);
+      inside = rw is.pixels (omega arith);
     }
 
-pub finished-requires : goal.finished-requires
-finished-requires c =
-    fits c.requires.ready (kind_in c.args.kind) 0 c.pixel-p.result (rw (c.room.ensures.0, c.room.ensures.1) at c.pixel-p.ensures) (omega arith)
+pub finished-requires-2 : goal.finished-requires-2
+finished-requires-2 c = fits c.requires.ready (kind_in c.args.kind) 0 c.pixel-p.result (rw (c.room.ensures.0, c.room.ensures.1) at c.pixel-p.ensures) (omega arith)
 
 pub returns : goal.returns
 returns c = λ src place.
     let f = frame_of c.args.f in
     let plans = rw (c.room.ensures.0, c.room.ensures.1) at c.pixel-p.ensures in
-    executes_finished src _ _ c.requires.ready place (kind_in c.args.kind) c.pixel-p.result (plans ∙ pixel_counts _ _ _ _ c.requires.pixel) (pixel-leaves _ _ _ c.requires.pixel) c.finished.ensures
-    (painted_as (λ j h. pixel_ink f _ _ c.pixel-p.result (state_of f src c.args.dst.now c.args.s) c.requires.pixel plans _ c.white_or_black.ensures.white c.white_or_black.ensures.black j h) (c.paint_single.ensures _))
+    let color = c.white_or_black.ensures in
+    let is = c.span.ensures in
+    let one : c.pixel-p.result.pixels ≡ 1 = omega (arith, pixel-few f _ _ c.pixel-p.result c.requires.pixel plans) in
+    executes_finished src _ _ c.requires.ready place (kind_in c.args.kind) c.pixel-p.result (plans ∙ pixel_counts _ _ _ _ c.requires.pixel) (pixel-leaves _ _ _ c.requires.pixel) c.finished-2.ensures
+    (painted_as (λ j h. pixel_ink f _ _ c.pixel-p.result (state_of f src c.args.dst.now c.args.s) c.requires.pixel plans _ color.white color.black j h)
+    (painted_at (sym one) (first-painted _ _ _ _ _ _ (rw (is.bytes, is.width, is.start) at c.paint_pixel.ensures))))
