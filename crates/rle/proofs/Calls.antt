@@ -7,8 +7,8 @@ use native.Mathlib.Omega.{arith}
 use lib.ListN.{length, take-append-drop}
 use lib.Seq.{length-take-le}
 use borrow.Author.Tests.{lt-ltb, le-ltb}
-use Rattle.std.specs.Prelude.{Ok, Err}
-use Rattle.rle.specs.declared.state.Frame.{Frame as CodeFrame}
+use Rattle.std.specs.Prelude.{Result, Ok, Err, MatchResult}
+use Rattle.rle.specs.declared.frame.Frame.{Frame as CodeFrame}
 use Rattle.rle.specs.declared.state.Stepped.{Stepped}
 use Rattle.rle.specs.declared.report.Report.{Report}
 use Rattle.picture.specs.declared.outcome.RleError.{RleError}
@@ -22,13 +22,18 @@ use Rattle.rle.specs.Report.{summary_in, Agrees, Decompresses}
 use Rattle.rle.specs.Planning.{CodeEnding}
 use Rattle.rle.specs.States.{frame_of, state_of, Framed}
 use Rattle.rle.specs.Orders.{Decodes, run_in}
-use Rattle.rle.specs.Reporting.{refusal_after, format_after, summary_after, not_decoded}
+use Rattle.rle.specs.Reporting.{refusal_after, format_after, summary_after, not_decoded, report_in}
 use Rattle.picture.proofs.Pixels.{length-pixels_of, bytes-pixels}
-use Rattle.picture.proofs.Depths.{depth_good}
-use Rattle.picture.proofs.Sizes.{few, sized}
+use Rattle.picture.proofs.Sizes.{sized}
+use Rattle.rle.proofs.Stream.{framed}
 use Rattle.definition.proofs.Bounds.{Bytes, last, decode_bounds}
 
 -- ---- refusals before the stream
+
+-- what `unwrap_or_else` makes of a report or a refusal
+pub unwrapped : (q : Result Report RleError) (r : Report) → MatchResult q (λ x. r ≡ x) (λ e. r ≡ not_decoded e) → r ≡ report_in q
+unwrapped (Ok x) r h = h
+unwrapped (Err e) r h = h
 
 refused-is : (src before : List ℕ) (total : ℕ) {c : Checked} (e : RleError) → c ≡ refused (refusal_of e)
     → Agrees src before before total (not_decoded e) (of_checked src c)
@@ -44,18 +49,16 @@ refused-is src before total e p =
       bounded = zero-le;
     })
 
-module _ (src before : List ℕ) (bpp w h : ℕ) {r : Report} {e : RleError} (is : r ≡ not_decoded e) where
-  pub reports_refused : refused (refusal_of e) ≡ checked bpp w h → Decompresses src bpp w h before before r
+module _ (src before : List ℕ) (bpp w h : ℕ) {e : RleError} where
+  pub reports_refused : refused (refusal_of e) ≡ checked bpp w h → Decompresses src bpp w h before before (not_decoded e)
   unfolding result_in with_space
-  reports_refused s =
-      rw is
-      (refused-is src before (w * h) e (ap (λ (c : Checked). with_space (length before) c) (sym s)))
+  reports_refused s = refused-is src before (w * h) e (ap (λ (c : Checked). with_space (length before) c) (sym s))
 
   pub reports_short : (f : CodeFrame) → accepted (frame_of f) (format_of f.depth.format) ≡ checked bpp w h
-      → length before < f.total * f.depth.bytes → e ≡ BufferTooShort (f.total * f.depth.bytes) (length before) → Decompresses src bpp w h before before r
+      → length before < f.total * f.depth.bytes → e ≡ BufferTooShort (f.total * f.depth.bytes) (length before)
+      → Decompresses src bpp w h before before (not_decoded e)
   unfolding result_in with_space
-  reports_short f s l q =
-      rw is (refused-is src before (w * h) e (rw (← s, q, lt-ltb (length before) (f.total * f.depth.bytes) l)))
+  reports_short f s l q = refused-is src before (w * h) e (rw (← s, q, lt-ltb (length before) (f.total * f.depth.bytes) l))
 
 -- ---- the stream
 
@@ -105,46 +108,14 @@ module _ (f : Frame) (k : ℕ) (src before after : List ℕ) (s : Stepped) (fram
         bounded = rw pixels bounded-is;
       })
 
--- what a frame says of its picture
-pub record FrameOf (bpp w h : ℕ) (f : CodeFrame) : Type 0 where
-  pub low : 1 ≤ f.depth.bytes
-  pub high : f.depth.bytes ≤ 3
-  pub wide : 1 ≤ f.width
-  pub few : f.total ≤ 67108864
-  pub total : f.total ≡ w * h
-  pub good : (given : ℕ) → f.total * f.depth.bytes ≤ given → Framed given (frame_of f)
-
 module _ (bpp w h : ℕ) (f : CodeFrame) (is : accepted (frame_of f) (format_of f.depth.format) ≡ checked bpp w h) where
-  pub frame_known : FrameOf bpp w h f
+  total-is : f.total ≡ w * h
   unfolding size_of accept
-  frame_known =
+  total-is =
       let k = sized bpp w h (f.total * f.depth.bytes) (ap size_of is) in
       let a : accepted (frame_of f) (format_of f.depth.format) ≡ accept (depth_of bpp) w h = is ∙ k.checks in
       let g : frame_of f ≡ record { bytes = (depth_of bpp).bytes; white = (depth_of bpp).white; black = (depth_of bpp).black; width = w; total = w * h } = cc in
-      let d = depth_good bpp k.known in
-      let b : f.depth.bytes ≡ (depth_of bpp).bytes = ap (λ (x : Frame). x.bytes) g in
-      let l : 1 ≤ f.depth.bytes = rw b d.low in
-      let u : f.depth.bytes ≤ 3 = rw b d.high in
-      let v : 1 ≤ f.width = rw (ap (λ (x : Frame). x.width) g) k.wide in
-      let t : f.total ≡ w * h = ap (λ (x : Frame). x.total) g in
-      let n : f.total ≤ 67108864 = rw t (few k.width k.height) in
-      record {
-        low = l;
-        high = u;
-        wide = v;
-        few = n;
-        total = t;
-        good = λ given fits.
-            record {
-              low = l;
-              high = u;
-              wide = v;
-              few = n;
-              fits = fits;
-              white = rw (ap (λ (x : Frame). x.white) g, b) d.white;
-              black = rw (ap (λ (x : Frame). x.black) g) d.black;
-            };
-      }
+      ap (λ (x : Frame). x.total) g
 
   module _ (before : List ℕ) (space : f.total * f.depth.bytes ≤ length before) where
     pub reports_decoded : (src after : List ℕ) (s : Stepped) → length after ≡ length before → Bytes src
@@ -152,5 +123,5 @@ module _ (bpp w h : ℕ) (f : CodeFrame) (is : accepted (frame_of f) (format_of 
         → (r : Report) → summary_in r ≡ summary_after s.ending (format_of f.depth.format) s.state.pixels s.state.orders → Decompresses src bpp w h before after r
     unfolding result_in of_checked with_space
     reports_decoded src after s same octets decodes r reports =
-        rw (← frame_known.total, ← is, le-ltb (length before) (f.total * f.depth.bytes) space)
-        (reports_run _ (format_of f.depth.format) src before after s (frame_known.good (length before) space) same octets decodes r reports)
+        rw (← total-is, ← is, le-ltb (length before) (f.total * f.depth.bytes) space)
+        (reports_run _ (format_of f.depth.format) src before after s (framed f (length before) space) same octets decodes r reports)

@@ -1,13 +1,15 @@
 -- Laws of a call without a target: refused before the stream, or walked to its end. Assumes nothing.
-use mathlib.Core.Path.{◌≡◌, sym, ◌∙◌}
+use mathlib.Core.Path.{◌≡◌, refl, sym, ◌∙◌}
 use mathlib.Core.List.{List}
 use Prim.Native.Nat.{ℕ, ◌≤◌}
 use native.Mathlib.Nat.{zero-add}
 use native.Mathlib.Omega.{arith}
 use Rattle.std.specs.Prelude.{Some, None, Ok, Err}
+use Rattle.std.specs.Result.{is_ok}
+use Rattle.base.proofs.Tests.{apart}
 use Rattle.picture.specs.declared.outcome.RleError.{RleError}
 use Rattle.rle.specs.declared.report.Report.{Report}
-use Rattle.rle.specs.declared.state.Frame.{Frame as CodeFrame}
+use Rattle.rle.specs.declared.frame.Frame.{Frame as CodeFrame}
 use Rattle.rle.specs.declared.walk.Walk.{Walk}
 use Rattle.rle.specs.declared.walk.Walked.{Walked}
 use Rattle.picture.specs.Sizes.{Frame, checked, accepted, refused}
@@ -22,10 +24,16 @@ use Rattle.rle.specs.Reporting.{summary_after, not_decoded}
 use Rattle.rle.proofs.Calls.{result-is}
 use Rattle.rle.proofs.Finding.{start-stands}
 
-pub counts-refused : (src : List ℕ) (bpp w h : ℕ) {r : Report} {e : RleError} → r ≡ not_decoded e → refused (refusal_of e) ≡ checked bpp w h
-    → summary_in r ≡ summary_of (result src bpp w h)
+pub counts-refused : (src : List ℕ) (bpp w h : ℕ) (e : RleError) → refused (refusal_of e) ≡ checked bpp w h
+    → summary_in (not_decoded e) ≡ summary_of (result src bpp w h)
 unfolding result of_checked
-counts-refused src bpp w h {e = e} is s = rw (is, ← s)
+counts-refused src bpp w h e s = rw (← s)
+
+-- how the stream ended up to where a walk stopped, by what `map` makes of the stop
+pub ended : (x : Stop) (r : CodeEnding) → is_ok r ≡ is_ok x → ((e : RleError) → x ≡ Err e → r ≡ Err e) → r ≡ ending_by x
+ended (Ok o) (Ok u) v h = refl
+ended (Ok o) (Err e) v h = apart cc
+ended (Err e) r v h = h e refl
 
 -- the orders ran out: the report
 counts-run : (f : Frame) (c : ℕ) (src : List ℕ) (n : ℕ) (e : CodeEnding) (pixels orders : ℕ) → RunsOut f (start f src) n e pixels orders → (r : Report)

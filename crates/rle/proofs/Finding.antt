@@ -4,8 +4,11 @@ use mathlib.Core.List.{List, []}
 use Prim.Native.Nat.{ℕ, ◌<◌}
 use native.Mathlib.Omega.{arith}
 use lib.ListN.{length, drop}
-use Rattle.std.specs.Prelude.{Some, None, Ok, Err}
-use Rattle.picture.specs.Sizes.{Refusal, Frame, accepted, checked, refused}
+use Rattle.std.specs.Prelude.{Result, Some, None, Ok, Err}
+use Rattle.std.specs.Result.{result_ok}
+use Rattle.base.proofs.Tests.{apart}
+use Rattle.picture.specs.declared.outcome.RleError.{RleError}
+use Rattle.picture.specs.Sizes.{Frame, accepted, checked}
 use Rattle.picture.specs.Outcomes.{format_of}
 use Rattle.picture.specs.Pixels.{pixels_of}
 use Rattle.picture.proofs.Pixels.{length-pixels_of}
@@ -13,10 +16,10 @@ use Rattle.definition.specs.Decode.{State, state, start}
 use Rattle.definition.specs.Records.{orders_from, nth}
 use Rattle.definition.proofs.Bounds.{Bytes, bytes_drop}
 use Rattle.definition.proofs.Records.{orders_without_room}
-use Rattle.rle.specs.declared.state.Frame.{Frame as CodeFrame}
+use Rattle.rle.specs.declared.frame.Frame.{Frame as CodeFrame}
 use Rattle.rle.specs.declared.walk.Walk.{Walk}
 use Rattle.rle.specs.declared.walk.Walked.{Walked}
-use Rattle.rle.specs.States.{frame_of}
+use Rattle.rle.specs.States.{frame_of, checked_in}
 use Rattle.rle.specs.Walking.{Stop, found_by, stops_at, WalksOrders}
 use Rattle.rle.specs.Walks.{start_walk, StandsFor, Finds, FindsOrder}
 
@@ -46,6 +49,20 @@ reached_finds : (f : Frame) (src : List ℕ) (first : State) (n : ℕ) (x : Stop
 reached_finds f src first n (Ok None) w k out = rw out.none tt
 reached_finds f src first n (Err e) w k out = rw out.none tt
 reached_finds f src first n (Ok (Some r)) w k reaches = rw reaches.is (reaches.told, reaches.stands)
+
+-- what `ok` leaves of a frame or a refusal
+module _ (bpp w h : ℕ) where
+  pub frame_taken : (r : Result CodeFrame RleError) (f : CodeFrame) → Some f ≡ result_ok r → checked_in r ≡ checked bpp w h
+      → accepted (frame_of f) (format_of f.depth.format) ≡ checked bpp w h
+  frame_taken (Ok g) f e is =
+      let same : f ≡ g = cc in
+      rw same is
+  frame_taken (Err x) f e is = apart cc
+
+  pub finds_refused : (src : List ℕ) (from : Walk) (n : ℕ) (r : Result CodeFrame RleError) → None ≡ result_ok r → checked_in r ≡ checked bpp w h
+      → FindsOrder src bpp w h from n None
+  finds_refused src from n (Ok g) e is = apart cc
+  finds_refused src from n (Err x) e is = rw (← is) refl
 
 module _ (bpp w h : ℕ) (f : CodeFrame) (is : accepted (frame_of f) (format_of f.depth.format) ≡ checked bpp w h) (src : List ℕ) (from : Walk) (n : ℕ) where
   pub finds_past : f.total < from.pixels → Bytes src → FindsOrder src bpp w h from n None

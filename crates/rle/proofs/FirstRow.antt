@@ -1,12 +1,12 @@
 -- Laws of the first row's end: before a row is painted it changes nothing, nor does it a second time. Assumes nothing.
 use mathlib.Core.Path.{◌≡◌, refl, ap, sym, ◌∙◌}
 use mathlib.Core.List.{List}
-use mathlib.Core.Bool.{Bool, true, false}
+use mathlib.Core.Bool.{Bool, true, false, ◌&&◌, beq}
 use Prim.Native.Nat.{ℕ, ◌≤◌, ◌<◌, zero-le}
 use lib.Dec.{ltb}
 use lib.ListN.{drop}
-use borrow.Author.Tests.{lt-ltb, le-ltb, ltb-true, ltb-false}
-use Rattle.rle.specs.declared.state.Frame.{Frame as CodeFrame}
+use borrow.Author.Tests.{lt-ltb, ltb-true, ltb-false}
+use Rattle.rle.specs.declared.frame.Frame.{Frame as CodeFrame}
 use Rattle.rle.specs.declared.state.State.{State as CodeState}
 use Rattle.base.specs.Picks.{pick}
 use Rattle.definition.specs.Orders.{head_of}
@@ -40,12 +40,6 @@ module _ (f : CodeFrame) (s : CodeState) where
         orders = s.orders;
       }
 
-  -- a row that is painted ends
-  pub row_ends : s.first_row ≡ true → f.width ≤ s.pixels
-      → first_row_ended f s
-      ≡ record { foreground = s.foreground; pos = s.pos; insert = false; pixels = s.pixels; first_row = false; orders = s.orders }
-  row_ends on h = rw (on, le-ltb s.pixels f.width h)
-
   pub row_begun : (first_row_ended f s).first_row ≡ true → s.pixels < f.width
   row_begun e = ltb-true s.pixels f.width (both_true s.first_row (ltb s.pixels f.width) e).1
 
@@ -62,6 +56,26 @@ module _ (f : CodeFrame) (s : CodeState) where
         foreground = invariant.foreground;
         counted = invariant.counted;
       }
+
+-- the plain decoder works it out without a test
+module _ (f : CodeFrame) (s : CodeState) where
+  pub row_ended : s.first_row && ltb s.pixels f.width ≡ (first_row_ended f s).first_row
+  row_ended = so s.first_row
+    where
+      so : (first : Bool) → first && ltb s.pixels f.width ≡ pick first (ltb s.pixels f.width) false
+      so true = refl
+      so false = refl
+
+  pub insert_ended : s.insert && beq (s.first_row && ltb s.pixels f.width) s.first_row ≡ (first_row_ended f s).insert
+  insert_ended = so s.first_row (ltb s.pixels f.width) s.insert
+    where
+      so : (first stays insert : Bool) → insert && beq (first && stays) first ≡ pick first (pick stays insert false) insert
+      so true true true = refl
+      so true true false = refl
+      so true false true = refl
+      so true false false = refl
+      so false stays true = refl
+      so false stays false = refl
 
 -- a second time it changes nothing
 pub row_again : (f : CodeFrame) (s : CodeState) → first_row_ended f (first_row_ended f s) ≡ first_row_ended f s

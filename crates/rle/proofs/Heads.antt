@@ -1,7 +1,7 @@
 -- Laws of heads: the kind and the run length that were read are the definition's. Assumes nothing.
 use mathlib.Core.Path.{◌≡◌}
 use mathlib.Core.List.{List}
-use Prim.Native.Nat.{ℕ, ◌+◌, ◌<◌}
+use Prim.Native.Nat.{ℕ, ◌+◌, ◌≤◌, ◌<◌}
 use native.Mathlib.Nat.{add-zero}
 use native.Mathlib.Omega.{arith}
 use lib.ListN.{get_or, drop}
@@ -23,16 +23,15 @@ module _ (src : List ℕ) (pos h : ℕ) (k : CodeKind) (at : h ≡ get_or src po
   unfolding head_of kind_of
   head-is x e = rw (← kind_numbered k) (rw (e, known, get_or-drop, add-zero, drop-drop, ← at, row_is))
 
-  pub head_read : (l : CodeLength) → h < 256 → ReadsLength src (pos + 1) (place_of (row_of h) h) (Ok l) (length_of (row_of h) h (drop (pos + 1) src))
-      → HeadAt src pos (record { header = h; place = l.place; kind = k; run_length = l.pixels; next = l.next })
+  pub head_read : (l : CodeLength) (some : 1 ≤ l.pixels) (few : l.pixels ≤ 65536) → h < 256
+      → ReadsLength src (pos + 1) (place_of (row_of h) h) (Ok l) (length_of (row_of h) h (drop (pos + 1) src))
+      → HeadAt src pos (record { header = h; place = l.place; kind = k; run_length = record { pixels = l.pixels; some = some; few = few }; next = l.next })
   unfolding headed
-  head_read l byte reads =
+  head_read l some few byte reads =
       record {
         is = head-is (Ok l) reads.is;
         header = at;
         stands = reads.stands;
-        some = reads.fits.0;
-        few = reads.fits.1;
         reads = omega (arith, reads.fits.2);
         place = reads.fits.3;
         fixed = fixed_read k l byte known reads;

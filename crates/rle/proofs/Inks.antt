@@ -1,42 +1,28 @@
 -- Laws of the code's inks: those of a state, and of a state with another foreground. Assumes nothing.
-use mathlib.Core.Path.{◌≡◌, refl, ap, ◌∙◌}
+use mathlib.Core.Path.{◌≡◌, refl, ap, sym, ◌∙◌}
 use mathlib.Core.List.{List, [], ◌∷◌}
 use mathlib.Core.Bool.{Bool, true, false}
-use Prim.Native.Nat.{ℕ, ◌≤◌, zero-le}
-use native.Mathlib.Nat.{le_refl}
-use native.Mathlib.Omega.{arith}
+use Prim.Native.Nat.{ℕ, ◌≤◌}
+use Rattle.std.specs.Prelude.{Option, IfSome}
+use Rattle.std.specs.Bool.{then_some}
 use lib.Dec.{leb}
 use lib.ListN.{length}
 use Rattle.rle.specs.declared.state.State.{State as CodeState}
-use Rattle.rle.specs.declared.state.Frame.{Frame as CodeFrame}
-use Rattle.rle.specs.declared.paint.Mode.{Mode}
-use Rattle.rle.specs.declared.paint.Mode.TheVariants.{Solid, Above, AboveXor}
+use Rattle.rle.specs.declared.frame.Frame.{Frame as CodeFrame}
 use Rattle.rle.specs.declared.paint.Ink.{Ink as CodeInk}
+use Rattle.rle.specs.declared.paint.Ink.TheVariants.{Solid, Above, AboveXor}
+use Rattle.rle.specs.declared.span.Span.{Span}
 use Rattle.base.specs.Picks.{pick}
 use Rattle.picture.specs.Pixels.{Pixel, OfDepth}
 use Rattle.picture.specs.Sizes.{Frame}
 use Rattle.picture.proofs.Pixels.{zeros_of_depth, of_depth}
 use Rattle.base.proofs.Tests.{by_test}
-use Rattle.definition.specs.Decode.{solid, fg_ink, bg_ink, insert_ink}
-use Rattle.definition.specs.Plan.{new_foreground, image_ink, Left, an_insert, a_foreground, nothing, foreground_in}
-use Rattle.rle.specs.Painting.{MaskInks, Painted, of_mode, ink_of, reach}
-use Rattle.rle.specs.States.{Framed, Invariant, row_above, row_mode, row_ink, fg_of, bg_of, with_fg}
-use Rattle.rle.proofs.Painting.{painted_as}
+use Rattle.definition.specs.Decode.{solid, above, above_xor, fg_ink, bg_ink, insert_ink}
+use Rattle.definition.specs.Plan.{new_foreground, Left, an_insert, a_foreground, nothing, foreground_in}
+use Rattle.rle.specs.Painting.{Paintable, HasColor, ink_of, zero_ink, insert_inks}
+use Rattle.rle.specs.States.{Framed, row_above, fg_of, bg_of, insert_of, with_fg, IsSpan}
 
 -- ---- where they can be painted
-
--- the row above is there where the state's two inks look at it
-reach-most : (later : Mode) (w : ℕ) → reach later w ≤ w
-reach-most Solid w = zero-le
-reach-most Above w = le_refl w
-reach-most AboveXor w = le_refl w
-
-pub row-reach : {f : Frame} {s : CodeState} (later : Mode) → Invariant f s → reach (row_mode s.first_row later) f.width ≤ s.pixels
-row-reach {f} {s} later invariant = go s.first_row invariant.row
-  where
-    go : (t : Bool) → row_above t f.width ≤ s.pixels → reach (row_mode t later) f.width ≤ s.pixels
-    go true h = h
-    go false h = omega (arith, reach-most later f.width)
 
 -- black has its unused bytes zero
 pub black_of_depth : {given : ℕ} {f : Frame} → Framed given f → OfDepth f.bytes f.black
@@ -56,36 +42,76 @@ foreground_of_depth frame of xs an_insert = of
 foreground_of_depth frame of xs a_foreground = new_of_depth frame of xs
 foreground_of_depth frame of xs nothing = of
 
--- ---- they are the definition's
+-- the row above is there where the state's two inks look at it
+module _ {f : CodeFrame} {s : CodeState} {n : ℕ} {t : Span} (is : IsSpan f s n t) (row : row_above s.first_row f.width ≤ s.pixels) where
+  pub fg_paintable : {p : Pixel} → OfDepth f.depth.bytes p → Paintable t (fg_of (with_fg s p))
+  fg_paintable {p} of = go s.first_row row
+    where
+      go : (first : Bool) → row_above first f.width ≤ s.pixels → Paintable t (pick first (Solid p) (AboveXor p))
+      go true h = rw is.bytes of
+      go false h = (rw (is.width, is.start) h, rw is.bytes of)
 
-ink_in_row : (first : Bool) (later : Mode) (p : Pixel) → ink_of (row_ink first later p) ≡ pick first (solid p) (of_mode later p)
-ink_in_row true later p = refl
-ink_in_row false later p = refl
+  pub bg_paintable : OfDepth f.depth.bytes f.depth.black → Paintable t (bg_of f s)
+  bg_paintable of = go s.first_row row
+    where
+      go : (first : Bool) → row_above first f.width ≤ s.pixels → Paintable t (pick first (Solid f.depth.black) Above)
+      go true h = rw is.bytes of
+      go false h = rw (is.width, is.start) h
+
+  pub insert_paintable : OfDepth f.depth.bytes s.foreground → IfSome (insert_of s) (λ ink. Paintable t ink)
+  insert_paintable of = go s.insert
+    where
+      go : (insert : Bool) → IfSome (then_some insert (fg_of s)) (λ ink. Paintable t ink)
+      go true = fg_paintable of
+      go false = tt
+
+-- a state's foreground has a color, which its masks need
+pub fg_color : (s : CodeState) → HasColor (fg_of s)
+fg_color s = go s.first_row
+  where
+    go : (first : Bool) → HasColor (pick first (Solid s.foreground) (AboveXor s.foreground))
+    go true = tt
+    go false = tt
+
+-- ---- they are the definition's
 
 -- those of a state that differs from s in the foreground alone
 pub fg-is : {i : CodeInk} {t : CodeState} {p : Pixel} (s : CodeState) → t ≡ with_fg s p → i ≡ fg_of t → ink_of i ≡ fg_ink s.first_row p
 unfolding fg_ink
-fg-is {p = p} s e is = ap (λ (x : CodeInk). ink_of x) (is ∙ ap (λ (x : CodeState). fg_of x) e) ∙ ink_in_row s.first_row AboveXor p
+fg-is {p = p} s e is = ap (λ (x : CodeInk). ink_of x) (is ∙ ap (λ (x : CodeState). fg_of x) e) ∙ go s.first_row
+  where
+    go : (first : Bool) → ink_of (pick first (Solid p) (AboveXor p)) ≡ pick first (solid p) (above_xor p)
+    go true = refl
+    go false = refl
 
 pub bg-is : {j : CodeInk} {t : CodeState} {p : Pixel} (f : CodeFrame) (s : CodeState) → t ≡ with_fg s p → j ≡ bg_of f t
     → ink_of j ≡ bg_ink s.first_row f.depth.black
 unfolding bg_ink
-bg-is {p = p} f s e is = ap (λ (x : CodeInk). ink_of x) (is ∙ ap (λ (x : CodeState). bg_of f x) e) ∙ ink_in_row s.first_row Above f.depth.black
-
--- a state's two inks are those of a mask's bits
-pub state-masks : {i j : CodeInk} (t : CodeState) (f : CodeFrame) → f.depth.black ≡ 0 ∷ 0 ∷ 0 ∷ [] → i ≡ fg_of t → j ≡ bg_of f t → MaskInks i j
-unfolding fg_ink bg_ink
-state-masks t f black fg bg = rw (fg, bg, black) (go t.first_row)
+bg-is {p = p} f s e is = ap (λ (x : CodeInk). ink_of x) (is ∙ ap (λ (x : CodeState). bg_of f x) e) ∙ go s.first_row
   where
-    go : (first : Bool) → MaskInks (row_ink first AboveXor t.foreground) (row_ink first Above (0 ∷ 0 ∷ 0 ∷ []))
-    go true = record { one = refl; zero = refl }
-    go false = record { one = refl; zero = refl }
+    go : (first : Bool) → ink_of (pick first (Solid f.depth.black) Above) ≡ pick first (solid f.depth.black) above
+    go true = refl
+    go false = refl
 
-module _ {D w k n : ℕ} {xs ys : List ℕ} {i j : CodeInk} (f : CodeFrame) (s : CodeState) (fg : i ≡ fg_of s) (bg : j ≡ bg_of f s) where
-  pub insert_inks : (insert : Bool) → Painted D w (insert_ink insert (ink_of i) (ink_of j)) k n xs ys
-      → Painted D w (insert_ink insert (fg_ink s.first_row s.foreground) (bg_ink s.first_row f.depth.black)) k n xs ys
-  insert_inks insert p = painted_as (λ m b h. insert_ink insert (fg-is s refl fg h) (bg-is {p = s.foreground} f s refl bg h) m) p
+-- that of a mask's bits that are 0
+pub zero-is : {i : CodeInk} {t : CodeState} {p : Pixel} (f : CodeFrame) (s : CodeState) → f.depth.black ≡ 0 ∷ 0 ∷ 0 ∷ [] → t ≡ with_fg s p → i ≡ fg_of t
+    → zero_ink i ≡ bg_ink s.first_row f.depth.black
+unfolding bg_ink
+zero-is {p = p} f s black e is = ap (λ (x : CodeInk). zero_ink x) (is ∙ ap (λ (x : CodeState). fg_of x) e) ∙ go s.first_row
+  where
+    go : (first : Bool) → zero_ink (pick first (Solid p) (AboveXor p)) ≡ pick first (solid f.depth.black) above
+    go true = ap solid (sym black)
+    go false = refl
 
-  pub mask_inks : (masks : List ℕ) → Painted D w (image_ink (ink_of i) (ink_of j) masks) k n xs ys
-      → Painted D w (image_ink (fg_ink s.first_row s.foreground) (bg_ink s.first_row f.depth.black) masks) k n xs ys
-  mask_inks masks p = painted_as (λ a b h. image_ink (fg-is s refl fg h) (bg-is {p = s.foreground} f s refl bg h) masks a) p
+-- those of a background run
+pub inserted-is : (insert : Bool) (fg bg : CodeInk) (j : ℕ) → insert_inks (then_some insert fg) bg j ≡ insert_ink insert (ink_of fg) (ink_of bg) j
+unfolding insert_ink
+inserted-is true fg bg j = refl
+inserted-is false fg bg j = refl
+
+pub insert-is : {i : Option CodeInk} {b : CodeInk} (f : CodeFrame) (s : CodeState) → i ≡ insert_of s → b ≡ bg_of f s → (j : ℕ)
+    → insert_inks i b j ≡ insert_ink s.insert (fg_ink s.first_row s.foreground) (bg_ink s.first_row f.depth.black) j
+insert-is {i} {b} f s fg bg j =
+    rw fg
+    (inserted-is s.insert (fg_of s) b j
+    ∙ (λ h. insert_ink s.insert (fg-is {p = s.foreground} s refl refl h) (bg-is {p = s.foreground} f s refl bg h) j))

@@ -17,13 +17,25 @@ use Rattle.rle.specs.declared.head.NoLength.{NoLength}
 use Rattle.rle.specs.declared.kind.Kind.{Kind as CodeKind}
 use Rattle.rle.specs.declared.kind.Kind.TheVariants.{BgRun, FgRun, FgBgImage, ColorRun, ColorImage, SetFgRun, SetFgBgImage, DitheredRun, SpecialFgBg1, SpecialFgBg2, White, Black, NoOrder}
 use Rattle.rle.specs.Kinds.{number_of}
-use Rattle.std.specs.Prelude.{Result, Ok, Err}
+use Rattle.std.specs.Prelude.{Result, Ok, Err, MatchResult}
 use Rattle.base.specs.Picks.{pick}
+use Rattle.base.proofs.Tests.{apart}
 use Rattle.definition.specs.Orders.{row_of, Place, nowhere, in_header, in_byte, in_two_bytes, place_of, RunLength, run_length, mega_length, mega_mega_length, with_bytes}
 use Rattle.definition.specs.Codes.{kind_number, length_number, place_by}
 use Rattle.definition.proofs.Headers.{place_is}
 use Rattle.rle.specs.Records.{place_in}
 use Rattle.rle.specs.Heads.{stands_at, own_place, ReadsLength}
+
+-- ---- what a read gave, by what `map_err` makes of it
+
+pub was_ok : (r : Result ℕ RleError) (x : ℕ) → MatchResult r (λ y. ◌≡◌ {A = Result ℕ NoLength} (Ok x) (Ok y)) (λ _. ⊥) → r ≡ Ok x
+was_ok (Ok y) x h = cc
+was_ok (Err e) x h = absurd h
+
+pub was_err : {P : RleError → Type 0} (r : Result ℕ RleError) (d : NoLength) → MatchResult r (λ y. ◌≡◌ {A = Result ℕ NoLength} (Err d) (Ok y)) P
+    → (e : RleError) × (r ≡ Err e) × P e
+was_err (Ok y) d h = apart cc
+was_err (Err e) d h = (e, refl, h)
 
 -- ---- where it stands
 

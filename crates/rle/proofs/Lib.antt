@@ -10,6 +10,7 @@ pub mod Sharing
 pub mod Operands
 pub mod FirstRow
 pub mod Stream
+pub mod Carried
 pub mod Walks
 pub mod Calls
 pub mod Counting

@@ -4,33 +4,37 @@ use mathlib.Core.List.{List}
 use mathlib.Core.Bool.{Bool, true, false}
 use mathlib.Core.Logic.{◌⊎◌, inl, inr}
 use Prim.Native.Nat.{ℕ, ◌+◌, ◌-◌, ◌*◌, ◌≤◌}
+use Rattle.std.specs.Prelude.{Option, IfSome}
+use Rattle.std.specs.Bool.{then_some}
 use native.Mathlib.Omega.{arith}
 use lib.ListN.{length, drop}
 use Rattle.rle.specs.declared.kind.Kind.{Kind as CodeKind}
 use Rattle.rle.specs.declared.kind.Kind.TheVariants as kinds
-use Rattle.rle.specs.declared.state.State.{State as CodeState}
 use Rattle.rle.specs.declared.state.Stepped.{Stepped}
-use Rattle.rle.specs.declared.state.Frame.{Frame as CodeFrame}
 use Rattle.rle.specs.declared.plan.Plan.{Plan as CodePlan}
-use Rattle.rle.specs.declared.paint.Mode.TheVariants.{Above, AboveXor}
-use Rattle.rle.specs.declared.paint.Ink.{Ink as CodeInk}
 use Rattle.base.specs.Picks.{pick}
 use Rattle.picture.specs.Pixels.{Pixel, OfDepth}
 use Rattle.picture.specs.Sizes.{Frame}
 use Rattle.definition.specs.Orders.{Kind, BgRun, FgRun, FgBgImage, ColorRun, ColorImage, SetFgRun, SetFgBgImage, DitheredRun, SpecialFgBg1, SpecialFgBg2, White, Black, NoOrder}
-use Rattle.definition.specs.Decode.{Ink, solid, mask_ink, order_of}
+use Rattle.definition.specs.Decode.{Ink, solid, mask_ink}
 use Rattle.definition.specs.Plan.{Counts, counts_of, leaves_insert, foreground_by, leaves, insert_in, image_ink, kind_ink}
 use Rattle.rle.specs.Kinds.{kind_in, sets_foreground}
 use Rattle.rle.specs.Planning.{counts_in}
+use Rattle.rle.specs.declared.paint.Ink.{Ink as CodeInk}
+use Rattle.rle.specs.declared.span.Span.{Span}
 use Rattle.rle.specs.Painting.{HasPlace, Paintable, Painted, ink_of}
-use Rattle.rle.specs.States.{frame_of, fg_of, bg_of, with_fg, finished_of}
-use Rattle.rle.specs.Orders.{Ready, Executes}
-use Rattle.rle.specs.Operands.{HasOperands, ReadyToPaint}
+use Rattle.rle.specs.States.{Invariant, frame_of, fg_of, bg_of, with_fg, IsSpan, finished_of}
+use Rattle.rle.specs.declared.order.Order.{Order}
+use Rattle.rle.specs.Carrying.{HasPicture, CarriesOut}
+use Rattle.rle.specs.Operands.{HasOperands}
+use native.Mathlib.Nat.{mul-le-mul_right}
+use Rattle.picture.proofs.Pixels.{zeros_of_depth}
+use Rattle.rle.proofs.Carried.{ready}
 use Rattle.base.proofs.Tests.{apart}
 use Rattle.rle.proofs.Painting.{painted_as}
-use Rattle.rle.proofs.Inks.{row-reach, foreground_of_depth, fg-is, bg-is, black_of_depth}
+use Rattle.rle.proofs.Inks.{fg_paintable, bg_paintable, insert_paintable, foreground_of_depth, fg-is, bg-is}
 use Rattle.rle.proofs.Numbers.{image_is}
-use Rattle.rle.proofs.Orders.{paintable, within, operands-read, image-operands, executes_finished}
+use Rattle.rle.proofs.Orders.{within, operands-read, image-operands, executes_finished}
 use Rattle.rle.proofs.Sharing.{IsSpecial, image_ink_lem, image-enough}
 
 -- ---- the operands
@@ -53,23 +57,37 @@ has_operands D n a R p kinds.White plans = tt
 has_operands D n a R p kinds.Black plans = tt
 has_operands D n a R p kinds.NoOrder plans = ap (λ (x : Counts). x.pixels) plans
 
--- the masks of an fg/bg image stand behind its foreground, of `size` bytes
-pub masks_left : (D n L pos : ℕ) {size : ℕ} {k : CodeKind} → (k ≡ kinds.FgBgImage) ⊎ (k ≡ kinds.SetFgBgImage) → HasOperands k D n (L - pos)
-    → size ≡ pick (sets_foreground k) D 0 → n ≤ (L - (pos + size)) * 8
-masks_left D n L pos (inl e) operands sized =
-    let few : n ≤ (L - pos) * 8 = rw e at operands in
-    let z = rw e at sized in
-    omega (arith, few, z)
-masks_left D n L pos (inr e) operands sized =
-    let few : n ≤ (L - pos - D) * 8 = rw e at operands in
-    let z = rw e at sized in
-    omega (arith, few, z)
-
 -- ---- painting
 
--- where an ink can be painted, there is a place
-pub place_of_lem : {D w k n : ℕ} {xs : List ℕ} {ink : CodeInk} → Paintable D w k n xs ink → HasPlace D k n xs
-place_of_lem p = record { low = p.low; high = p.high; fits = p.fits }
+-- the span that is painted, and the state's inks in it
+module _ (o : Order) (n : ℕ) (room : o.state.pixels + n ≤ o.frame.total) where
+  abbrev own : Span
+  own =
+      record {
+        bytes = o.frame.depth.bytes;
+        width = o.frame.width;
+        start = o.state.pixels;
+        pixels = n;
+        low = o.frame.low;
+        high = o.frame.high;
+        wide = o.frame.wide;
+        end = omega (arith, room, o.frame.few);
+      }
+
+  own_is : IsSpan o.frame o.state n own
+  own_is = record { bytes = refl; width = refl; start = refl; pixels = refl }
+
+  pub own_place : (dst : List ℕ) → HasPicture o dst → HasPlace own dst
+  own_place dst fits = omega (arith, fits, mul-le-mul_right {m = o.state.pixels + n} {n = o.frame.total} o.frame.depth.bytes room)
+
+  pub own_fg : {ink : CodeInk} → ink ≡ fg_of o.state → Paintable own ink
+  own_fg e = rw e (fg_paintable own_is o.holds.row o.holds.foreground)
+
+  pub own_bg : {ink : CodeInk} → ink ≡ bg_of o.frame o.state → Paintable own ink
+  own_bg e = rw e (bg_paintable own_is o.holds.row (rw o.frame.black (zeros_of_depth o.frame.depth.bytes)))
+
+  pub own_insert : {ink : CodeInk} {insert : Option CodeInk} → ink ≡ fg_of o.state → insert ≡ then_some o.state.insert ink → IfSome insert (λ i. Paintable own i)
+  own_insert fg is = rw (is, fg) (insert_paintable own_is o.holds.row o.holds.foreground)
 
 -- a white or black order's color is of the depth
 pub color_depth : (D : ℕ) {w b x : Pixel} {k : CodeKind} → (k ≡ kinds.White) ⊎ (k ≡ kinds.Black) → OfDepth D w → OfDepth D b
@@ -118,31 +136,34 @@ insert_only f White i fg bg xs j = refl
 insert_only f Black i fg bg xs j = refl
 insert_only f NoOrder i fg bg xs j = refl
 
--- an order of kind c and run length n with the plan p; own: its foreground
-module _ (f : CodeFrame) (src dst : List ℕ) (s : CodeState) (c : CodeKind) {own : Pixel}
-    (is-own : own ≡ foreground_by f.depth.bytes (kind_in c) s.foreground (drop s.pos src))
-    {n : ℕ} (ready : Ready (length dst) (frame_of f) s n) (place : s.pos ≤ length src) (p : CodePlan)
-    (plans : counts_in p ≡ counts_of f.depth.bytes (kind_in c) n (length src - s.pos) (f.total - s.pixels)) where
-  pub ready_to_paint : ReadyToPaint src dst f (with_fg s own) c p.pixels
-  ready_to_paint =
-      let w = within ready (kind_in c) (length src - s.pos) p plans in
-      let inv = ready.invariant in
+-- an order of kind c with the plan p; own: its foreground
+module _ (o : Order) (dst : List ℕ) (c : CodeKind) {own : Pixel}
+    (is-own : own ≡ foreground_by o.frame.depth.bytes (kind_in c) o.state.foreground (drop o.state.pos o.src.now))
+    (fits : HasPicture o dst) (p : CodePlan)
+    (plans : counts_in p ≡ counts_of o.frame.depth.bytes (kind_in c) o.run_length.pixels (length o.src.now - o.state.pos) (o.frame.total - o.state.pixels)) where
+  -- the order with that foreground
+  pub own_holds : Invariant (frame_of o.frame) (with_fg o.state own)
+  own_holds =
       record {
-        fg =
-            paintable dst p.pixels ready w.pixels _ (row-reach AboveXor inv)
-            (rw is-own (foreground_of_depth ready.frame inv.foreground (drop s.pos src) (leaves (kind_in c))));
-        bg = paintable dst p.pixels ready w.pixels _ (row-reach Above inv) (black_of_depth ready.frame);
-        white = ready.frame.white;
-        place = place;
-        operands = has_operands f.depth.bytes n (length src - s.pos) (f.total - s.pixels) p c plans;
+        within = o.holds.within;
+        row = o.holds.row;
+        foreground = rw is-own (foreground_of_depth (ready o _ fits).frame o.holds.foreground (drop o.state.pos o.src.now) (leaves (kind_in c)));
+        counted = o.holds.counted;
       }
 
-  pub executes_painted : {after : List ℕ} {r : Stepped} → r ≡ finished_of (with_fg s own) p (leaves_insert (kind_in c))
-      → Painted f.depth.bytes f.width (kind_ink (frame_of f) (kind_in c) s.insert (ink_of (fg_of (with_fg s own))) (ink_of (bg_of f s)) (drop s.pos src)) s.pixels p.pixels dst after
-      → Executes (frame_of f) src dst after s r (order_of (frame_of f) (kind_in c) n)
+  pub own_room : o.state.pixels + p.pixels ≤ o.frame.total
+  own_room = omega (arith, (within (ready o _ fits) (kind_in c) _ p plans).pixels, o.holds.within)
+
+  pub own_operands : HasOperands c o.frame.depth.bytes p.pixels (length o.src.now - o.state.pos)
+  own_operands = has_operands o.frame.depth.bytes o.run_length.pixels (length o.src.now - o.state.pos) (o.frame.total - o.state.pixels) p c plans
+
+  pub executes_painted : {after : List ℕ} {r : Stepped} → r ≡ finished_of (with_fg o.state own) p (leaves_insert (kind_in c))
+      → Painted o.frame.depth.bytes o.frame.width (kind_ink (frame_of o.frame) (kind_in c) o.state.insert (ink_of (fg_of (with_fg o.state own))) (ink_of (bg_of o.frame o.state)) (drop o.state.pos o.src.now)) o.state.pixels p.pixels dst after
+      → CarriesOut o (kind_in c) dst after r
   executes_painted is painted =
-      executes_finished src dst _ ready place (kind_in c) p plans (record { state = ap (λ (x : Pixel). with_fg s x) is-own; insert = refl }) is
+      let state = ap (λ (x : Pixel). with_fg o.state x) is-own in
+      executes_finished o.src.now dst _ (ready o _ fits) o.place (kind_in c) p plans state is
       (painted_as
-      (λ j _. (λ h. kind_ink (frame_of f) (kind_in c) s.insert (fg-is s (ap (λ (x : Pixel). with_fg s x) is-own) refl h) (bg-is {p = own} f s refl refl h) (drop s.pos src) j)
-      ∙ insert_only (frame_of f) (kind_in c) s.insert _ _ (drop s.pos src) j)
+      (λ j _. (λ h. kind_ink (frame_of o.frame) (kind_in c) o.state.insert (fg-is o.state state refl h) (bg-is {p = own} o.frame o.state refl refl h) (drop o.state.pos o.src.now) j)
+      ∙ insert_only (frame_of o.frame) (kind_in c) o.state.insert _ _ (drop o.state.pos o.src.now) j)
       painted)

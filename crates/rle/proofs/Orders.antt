@@ -1,7 +1,6 @@
 -- Laws of orders: an order that is planned, and whose pixels are painted as planned, is the definition's. Assumes nothing.
 use mathlib.Core.Path.{◌≡◌, refl, ap, sym, ◌∙◌, subst}
 use mathlib.Core.List.{List}
-use mathlib.Core.Bool.{Bool}
 use Prim.Native.Nat.{ℕ, ◌+◌, ◌*◌, ◌-◌, ◌%◌, ◌≤◌, ◌<◌}
 use native.Mathlib.Nat.{mul-le-mul_right}
 use native.Mathlib.Omega.{arith}
@@ -9,39 +8,22 @@ use lib.ListN.{length, drop, length-drop}
 use lib.Seq.{drop-drop}
 use Rattle.rle.specs.declared.state.State.{State as CodeState}
 use Rattle.rle.specs.declared.state.Stepped.{Stepped}
-use Rattle.rle.specs.declared.paint.Ink.{Ink as CodeInk}
+use Rattle.rle.specs.declared.span.Span.{Span}
+use Rattle.rle.specs.declared.frame.Frame.{Frame as CodeFrame}
 use Rattle.rle.specs.declared.plan.Plan.{Plan as CodePlan}
-use Rattle.picture.specs.Pixels.{Pixel, OfDepth}
+use Rattle.picture.specs.Pixels.{Pixel}
 use Rattle.picture.specs.Sizes.{Frame}
 use Rattle.definition.specs.Orders.{Kind}
-use Rattle.definition.specs.Decode.{State, state, room, order_of}
+use Rattle.definition.specs.Decode.{Ink, State, state, room, order_of}
 use Rattle.definition.specs.Plan.{Counts, with_operands, run_counts, counts_of, leaves_insert, foreground_by, insert_after, orders_after, leaves}
 use Rattle.rle.specs.Planning.{counts_in, ending_in}
-use Rattle.rle.specs.Painting.{HasPlace, Paintable, Painted, reach}
-use Rattle.rle.specs.States.{state_of, with_fg, Fits, finished_of}
+use Rattle.rle.specs.Painting.{HasPlace, Painted, Paints}
+use Rattle.rle.specs.States.{frame_of, state_of, with_fg, IsSpan, Fits, finished_of}
 use Rattle.rle.specs.Orders.{Ready, Executes, step_in}
 use Rattle.picture.proofs.Pixels.{length-pixels_of}
 use Rattle.definition.proofs.Masks.{acted}
 use Rattle.definition.proofs.Planned.{ink_by, kind_acted, Within, kind-within, orders-few, operands-there, image-read, pairs_read}
 use Rattle.rle.proofs.Inks.{foreground_of_depth}
-
--- ---- where pixels can be painted
-
--- n pixels have a place, and can be painted
-module _ {f : Frame} {s : CodeState} {m : ℕ} (dst : List ℕ) (n : ℕ) (ready : Ready (length dst) f s m) (room : n ≤ f.total - s.pixels) where
-  pub has_place : HasPlace f.bytes s.pixels n dst
-  has_place =
-      let within = ready.invariant.within in
-      record {
-        low = ready.frame.low;
-        high = ready.frame.high;
-        fits = omega (arith, ready.frame.fits, within, mul-le-mul_right {m = s.pixels + n} {n = f.total} f.bytes (omega (arith, within)));
-      }
-
-  pub paintable : (ink : CodeInk) → reach ink.mode f.width ≤ s.pixels → OfDepth f.bytes ink.pixel
-      → Paintable f.bytes f.width s.pixels n dst ink
-  paintable ink r e =
-      record { low = has_place.low; high = has_place.high; wide = ready.frame.wide; fits = has_place.fits; row = r; pixel = e }
 
 -- ---- an order planned and painted
 
@@ -59,6 +41,25 @@ module _ {given : ℕ} {f : Frame} {s : CodeState} {n : ℕ} (ready : Ready give
         counted = ready.invariant.counted;
       }
 
+-- the same with a target
+module _ (f : CodeFrame) (dst : List ℕ) {s : CodeState} {n : ℕ} (ready : Ready (length dst) (frame_of f) s n) (k : Kind) (a : ℕ) (p : CodePlan)
+    (plans : counts_in p ≡ counts_of f.depth.bytes k n a (f.total - s.pixels)) where
+  pub few_behind : s.pixels + p.pixels ≤ 67108864
+  few_behind = omega (arith, (within ready k a p plans).pixels, ready.frame.few, ready.invariant.within)
+
+  pub all_fit : (s.pixels + p.pixels) * f.depth.bytes ≤ length dst
+  all_fit =
+      let few : s.pixels + p.pixels ≤ f.total = omega (arith, (within ready k a p plans).pixels, ready.invariant.within) in
+      omega (arith, ready.frame.fits, mul-le-mul_right {m = s.pixels + p.pixels} {n = f.total} f.depth.bytes few)
+
+  pub has_place : {t : Span} → IsSpan f s p.pixels t → HasPlace t dst
+  has_place is = rw (is.bytes, is.start, is.pixels) all_fit
+
+-- the pixels that come next are those that an order paints
+pub next-painted : {f : CodeFrame} {s : CodeState} {n : ℕ} {t : Span} {ink : ℕ → Ink} {xs ys : List ℕ} → IsSpan f s n t → Paints t ink xs ys
+    → Painted f.depth.bytes f.width ink s.pixels n xs ys
+next-painted is p = rw (is.bytes, is.width, is.start, is.pixels) at p
+
 -- the same with another foreground
 pub fits_with : {s t : CodeState} {x : Pixel} {p : CodePlan} → t ≡ with_fg s x → Fits s p → Fits t p
 fits_with e h = rw e (record { read = h.read; pixels = h.pixels; counted = h.counted })
@@ -73,12 +74,6 @@ module _ (a : ℕ) (p : CodePlan) where
 
   pub pairs_even : (d D n R : ℕ) → counts_in p ≡ with_operands d a (run_counts D (n * 2) R) → p.pixels % 2 ≡ 0
   pairs_even d D n R e = subst (λ (x : Counts). x.pixels % 2 ≡ 0) (sym e) (pairs_read d D n a R)
-
--- t and i: the state but for what is read and painted, and the insert, that an order of kind k leaves, with the bytes xs from its
--- operands on
-pub record Leaves (D : ℕ) (k : Kind) (s : CodeState) (xs : List ℕ) (t : CodeState) (i : Bool) : Type 0 where
-  pub state : t ≡ with_fg s (foreground_by D k s.foreground xs)
-  pub insert : i ≡ leaves_insert k
 
 module _ {f : Frame} (src before after : List ℕ) {s : CodeState} {n : ℕ} (ready : Ready (length before) f s n) (place : s.pos ≤ length src)
     (k : Kind) (p : CodePlan) (plans : counts_in p ≡ counts_of f.bytes k n (length src - s.pos) (f.total - s.pixels)) where
@@ -123,8 +118,9 @@ module _ {f : Frame} (src before after : List ℕ) {s : CodeState} {n : ℕ} (re
             };
       }
 
-  pub executes_finished : {t : CodeState} {i : Bool} {r : Stepped} → Leaves f.bytes k s (drop s.pos src) t i → r ≡ finished_of t p i
+  -- t: the state with the foreground that the order leaves
+  pub executes_finished : {t : CodeState} {r : Stepped} → t ≡ with_fg s foreground → r ≡ finished_of t p (leaves_insert k)
       → Painted f.bytes f.width (ink_by f k S) s.pixels p.pixels before after → Executes f src before after s r (order_of f k n)
   executes_finished {r = r} left is painted =
-      let e : r ≡ finished_of (with_fg s foreground) p (leaves_insert k) = is ∙ (λ j. finished_of (left.state j) p (left.insert j)) in
+      let e : r ≡ finished_of (with_fg s foreground) p (leaves_insert k) = is ∙ ap (λ (t : CodeState). finished_of t p (leaves_insert k)) left in
       rw e (executes_planned painted)

@@ -2,8 +2,9 @@
 use mathlib.Core.Path.{◌≡◌, refl, ap, sym, ◌∙◌, subst}
 use mathlib.Core.List.{List, [], ◌∷◌, ◌++◌}
 use mathlib.Core.Bool.{Bool, true, false}
-use Prim.Native.Nat.{ℕ, ◌+◌, ◌*◌, ◌-◌, ◌/◌, ◌%◌, ◌^◌, ◌≤◌, ◌<◌, zero-le}
-use native.Mathlib.Nat.{add-zero, add_assoc, mul-le-mul_right, mul-le-mul_left}
+use Rattle.std.specs.Prelude.{Some}
+use Prim.Native.Nat.{ℕ, ◌+◌, ◌*◌, ◌-◌, ◌/◌, ◌%◌, ◌^◌, ◌≤◌, ◌<◌}
+use native.Mathlib.Nat.{add-zero, add_assoc, mul-le-mul_right}
 use native.Mathlib.Numerals.{add-one}
 use native.Mathlib.Omega.{arith}
 use lib.Dec.{ltb, eqb}
@@ -11,16 +12,14 @@ use borrow.Author.Tests.{ne_eqb}
 use lib.Bits.{bit_xor}
 use lib.ListN.{length, get_or, take, drop, take-append-drop}
 use lib.Seq.{drop-drop, get_or-drop}
-use Rattle.rle.specs.declared.paint.Mode.{Mode}
-use Rattle.rle.specs.declared.paint.Mode.TheVariants.{Solid, Above, AboveXor}
 use Rattle.rle.specs.declared.paint.Ink.{Ink as CodeInk}
+use Rattle.rle.specs.declared.span.Span.{Span}
 use Rattle.base.specs.Picks.{pick}
-use Rattle.base.proofs.Tests.{clash}
 use Rattle.picture.specs.Pixels.{Pixel, first_pixel, pixel_at, pixels_of, bytes_of, xor_pixel, OfDepth}
-use Rattle.definition.specs.Decode.{Ink, solid, color, paint, pixel_above, fg_ink, bg_ink, insert_ink, mask_ink, dither_ink}
+use Rattle.definition.specs.Decode.{Ink, solid, above, above_xor, color, paint, pixel_above, mask_ink, dither_ink}
 use Rattle.definition.specs.Plan.{image_ink}
 use Rattle.rle.specs.Stored.{store_pixel}
-use Rattle.rle.specs.Painting.{HasPlace, Paintable, PaintedOne, MaskInks, Painted, of_mode, is_solid, reach, ink_of, solid_ink}
+use Rattle.rle.specs.Painting.{HasPlace, HasAbove, IsPart, PaintedOne, Painted, Paints, ink_of, insert_inks}
 use Rattle.picture.proofs.Pixels.{length-first_pixel, of_depth, length-pixels_of, get_or-pixels_of, bytes-pixels}
 use Rattle.definition.proofs.Painting.{paint_cong, paint_add}
 use Rattle.rle.proofs.Pixels.{store_before, store_there, store_after}
@@ -49,13 +48,6 @@ pub above-is : (D w k : ℕ) (xs : List ℕ) → 1 ≤ w → w ≤ k → pixel_a
 unfolding pixel_above
 above-is D w k xs h b = rw length-pixels_of (get_or-pixels_of D k xs (k - w) (0 ∷ 0 ∷ 0 ∷ []) (omega arith))
 
-pub back_fits : (D w k : ℕ) → (k - w) * D + D ≤ (k + 1) * D
-back_fits D w k = omega (arith, mul-le-mul_right {m = k - w} {n = k} D (omega arith))
-
--- a mode that looks at the row above finds it there
-pub far : {mode seen : Mode} (w k : ℕ) → mode ≡ seen → reach mode w ≤ k → reach seen w ≤ k
-far w k e h = subst (λ (m : Mode). reach m w ≤ k) e h
-
 painted_one_of : (D w k : ℕ) (xs ys q : List ℕ) (ink : Ink) → 1 ≤ D → D ≤ 3 → (k + 1) * D ≤ length xs
     → OfDepth D q → q ≡ color w (pixels_of D k xs) ink → ys ≡ store_pixel D xs (k * D) q → PaintedOne D w ink k xs ys
 unfolding pixels_of
@@ -70,29 +62,35 @@ painted_one_of D w k xs ys q ink low high fits of is e =
       rest = rw (e, next) (store_after D k xs q low (omega arith) long);
     }
 
--- the three ways of `paint_pixel`
-module _ (D w k : ℕ) (xs ys : List ℕ) (ink : CodeInk) (pre : Paintable D w k 1 xs ink) where
-  pub one-solid : ink.mode ≡ Solid → ys ≡ store_pixel D xs (k * D) ink.pixel → PaintedOne D w (ink_of ink) k xs ys
+-- pixel i of a span has its place
+pub one_place : (s : Span) (xs ys : List ℕ) (i : ℕ) → HasPlace s xs → i < s.pixels → length ys ≡ length xs
+    → (s.start + i + 1) * s.bytes ≤ length ys
+one_place s xs ys i p h e = omega (arith, p, mul-le-mul_right {m = s.start + i + 1} {n = s.start + s.pixels} s.bytes (omega arith))
+
+-- the ways to paint pixel i of a span
+module _ (s : Span) (i : ℕ) (xs ys : List ℕ) (place : HasPlace s xs) (inside : i < s.pixels) where
+  abbrev k : ℕ
+  k = s.start + i
+
+  pub one-solid : {p : Pixel} → OfDepth s.bytes p → ys ≡ store_pixel s.bytes xs (k * s.bytes) p → PaintedOne s.bytes s.width (solid p) k xs ys
   unfolding color
-  one-solid m e = painted_one_of D w k xs ys ink.pixel (ink_of ink) pre.low pre.high pre.fits pre.pixel (rw m) e
+  one-solid {p} of e = painted_one_of s.bytes s.width k xs ys p (solid p) s.low s.high (one_place s xs xs i place inside refl) of refl e
 
-  pub one-above : (q : Pixel) → ink.mode ≡ Above → q ≡ first_pixel D (drop ((k - w) * D) xs) → ys ≡ store_pixel D xs (k * D) q
-      → PaintedOne D w (ink_of ink) k xs ys
-  unfolding color pixel_at
-  one-above q m r e =
-      painted_one_of D w k xs ys q (ink_of ink) pre.low pre.high pre.fits
-      (rw r (of_depth D (drop ((k - w) * D) xs) pre.low pre.high))
-      (rw m (r ∙ sym (above-is D w k xs pre.wide (far w k m pre.row))))
-      e
+  -- q: the pixel above, in the bytes
+  module _ {q : Pixel} (there : HasAbove s) (read : q ≡ first_pixel s.bytes (drop ((k - s.width) * s.bytes) xs)) where
+    pub one-above : ys ≡ store_pixel s.bytes xs (k * s.bytes) q → PaintedOne s.bytes s.width above k xs ys
+    unfolding color pixel_at
+    one-above e =
+        painted_one_of s.bytes s.width k xs ys q above s.low s.high (one_place s xs xs i place inside refl) (read_of_depth _ s.low s.high read)
+        (read ∙ sym (above-is s.bytes s.width k xs s.wide (omega arith))) e
 
-  pub one_xor : (q x : Pixel) → ink.mode ≡ AboveXor → q ≡ first_pixel D (drop ((k - w) * D) xs) → x ≡ xor_pixel q ink.pixel
-      → ys ≡ store_pixel D xs (k * D) x → PaintedOne D w (ink_of ink) k xs ys
-  unfolding color pixel_at
-  one_xor q x m r o e =
-      painted_one_of D w k xs ys x (ink_of ink) pre.low pre.high pre.fits
-      (rw o (of_depth_xor D q ink.pixel (rw r (of_depth D (drop ((k - w) * D) xs) pre.low pre.high)) pre.pixel))
-      (rw m (o ∙ ap (λ (l : Pixel). xor_pixel l ink.pixel) (r ∙ sym (above-is D w k xs pre.wide (far w k m pre.row)))))
-      e
+    pub one_xor : {p x : Pixel} → OfDepth s.bytes p → x ≡ xor_pixel q p → ys ≡ store_pixel s.bytes xs (k * s.bytes) x
+        → PaintedOne s.bytes s.width (above_xor p) k xs ys
+    unfolding color pixel_at
+    one_xor {p} {x} of is e =
+        painted_one_of s.bytes s.width k xs ys x (above_xor p) s.low s.high (one_place s xs xs i place inside refl)
+        (rw is (of_depth_xor s.bytes q p (read_of_depth _ s.low s.high read) of))
+        (is ∙ ap (λ (l : Pixel). xor_pixel l p) (read ∙ sym (above-is s.bytes s.width k xs s.wide (omega arith)))) e
 
 -- ---- n pixels
 
@@ -137,11 +135,6 @@ one_as {D} {w} {k} {i} {j} {xs} {ys} e p = subst (λ (x : Ink). PaintedOne D w x
 pub painted_as : {D w k n : ℕ} {i j : ℕ → Ink} {xs ys : List ℕ} → ((m : ℕ) → m < n → i m ≡ j m) → Painted D w i k n xs ys → Painted D w j k n xs ys
 painted_as {D} {w} {k} {n} {i} {j} {xs} e p = record { pixels = p.pixels ∙ paint_cong w i j n (pixels_of D k xs) e; rest = p.rest }
 
--- the ink of a mode that is known
-pub painted_mode : {D w k n : ℕ} {mode : Mode} {xs ys : List ℕ} (i : CodeInk) → i.mode ≡ mode → Painted D w (λ _. of_mode mode i.pixel) k n xs ys
-    → Painted D w (λ _. ink_of i) k n xs ys
-painted_mode i e p = painted_as (λ j b. ap (λ (m : Mode). of_mode m i.pixel) (sym e)) p
-
 pub painted_join : (D w k m n : ℕ) (ink : ℕ → Ink) (xs ys zs : List ℕ) → Painted D w ink k m xs ys
     → Painted D w (λ j. ink (m + j)) (k + m) n ys zs → Painted D w ink k (m + n) xs zs
 painted_join D w k m n ink xs ys zs p q =
@@ -157,95 +150,52 @@ painted_join D w k m n ink xs ys zs p q =
           ∙ drop-drop (n * D) ((k + m) * D) xs);
     }
 
-pub painted-one : (D w k : ℕ) (ink : ℕ → Ink) (xs ys : List ℕ) → PaintedOne D w (ink 0) k xs ys → Painted D w ink k 1 xs ys
+-- the first pixel
+pub first-painted : (D w k : ℕ) (ink : ℕ → Ink) (xs ys : List ℕ) → PaintedOne D w (ink 0) (k + 0) xs ys → Painted D w ink k 1 xs ys
 unfolding paint
-painted-one D w k ink xs ys o = record { pixels = o.pixels; rest = o.rest }
+first-painted D w k ink xs ys o =
+    let e = rw add-zero at o in
+    record { pixels = e.pixels; rest = e.rest }
 
 -- two targets that held the same, and are painted the same, hold the same
-pub painted_same : {D w k n : ℕ} {ink : ℕ → Ink} {before₁ after₁ before₂ after₂ : List ℕ} → HasPlace D k n before₁ → before₁ ≡ before₂
+pub painted_same : (s : Span) {ink : ℕ → Ink} {before₁ after₁ before₂ after₂ : List ℕ} → HasPlace s before₁ → before₁ ≡ before₂
     → length after₁ ≡ length before₁ → length after₂ ≡ length before₂
-    → Painted D w ink k n before₁ after₁ → Painted D w ink k n before₂ after₂ → after₁ ≡ after₂
-painted_same {D} {w} {k} {n} {ink} {before₁} {after₁} {before₂} {after₂} place e l₁ l₂ p q =
-    let m = (k + n) * D in
-    let pixels : pixels_of D (k + n) after₁ ≡ pixels_of D (k + n) after₂ =
-    p.pixels ∙ ap (λ (l : List ℕ). paint w ink n (pixels_of D k l)) e ∙ sym q.pixels in
-    let fits : m ≤ length after₂ = rw (l₂, ← e) place.fits in
+    → Paints s ink before₁ after₁ → Paints s ink before₂ after₂ → after₁ ≡ after₂
+painted_same s {ink} {before₁} {after₁} {before₂} {after₂} place e l₁ l₂ p q =
+    let m = (s.start + s.pixels) * s.bytes in
+    let pixels : pixels_of s.bytes (s.start + s.pixels) after₁ ≡ pixels_of s.bytes (s.start + s.pixels) after₂ =
+    p.pixels ∙ ap (λ (l : List ℕ). paint s.width ink s.pixels (pixels_of s.bytes s.start l)) e ∙ sym q.pixels in
+    let fits : m ≤ length after₂ = rw (l₂, ← e) place in
     let front : take m after₁ ≡ take m after₂ =
-    sym (bytes-pixels D (k + n) after₁ place.high (rw l₁ place.fits))
-    ∙ ap (λ (ps : List Pixel). bytes_of D ps) pixels
-    ∙ bytes-pixels D (k + n) after₂ place.high fits in
+    sym (bytes-pixels s.bytes (s.start + s.pixels) after₁ s.high (rw l₁ place))
+    ∙ ap (λ (ps : List Pixel). bytes_of s.bytes ps) pixels
+    ∙ bytes-pixels s.bytes (s.start + s.pixels) after₂ s.high fits in
     let back : drop m after₁ ≡ drop m after₂ = p.rest ∙ ap (λ (l : List ℕ). drop m l) e ∙ sym q.rest in
     sym (take-append-drop m after₁) ∙ (λ i. front i ++ back i) ∙ take-append-drop m after₂
 
--- ---- where pixels can be painted
+-- ---- parts of a span
 
-pub at_most_bytes : (D n : ℕ) → 1 ≤ D → n ≤ n * D
-at_most_bytes D n h = omega (arith, mul-le-mul_left {m = 1} {n = D} n h)
+-- t: n of the pixels of s, from number i of them on
+module _ {s t : Span} {i n : ℕ} (is : IsPart s i n t) where
+  pub painted_in : {ink : ℕ → Ink} {xs ys : List ℕ} → Paints t ink xs ys → Painted s.bytes s.width ink (s.start + i) n xs ys
+  painted_in p = rw (is.bytes, is.width, is.start, is.pixels) at p
 
--- n of the m pixels, from number i of them on
-pub part : {D w k m : ℕ} {xs ys : List ℕ} {ink : CodeInk} (n i : ℕ) → Paintable D w k m xs ink → i + n ≤ m → length ys ≡ length xs
-    → Paintable D w (k + i) n ys ink
-part {D} {w} {k} {m} n i r h e =
-    record {
-      low = r.low;
-      high = r.high;
-      wide = r.wide;
-      fits = omega (arith, r.fits, mul-le-mul_right {m = k + i + n} {n = k + m} D (omega arith));
-      row = omega (arith, r.row);
-      pixel = r.pixel;
-    }
-
--- the first n of the m pixels
-pub front : {D w k m : ℕ} {xs : List ℕ} {ink : CodeInk} (n : ℕ) → Paintable D w k m xs ink → n ≤ m → Paintable D w k n xs ink
-front {D} {w} {k} {m} n r h =
-    record {
-      low = r.low;
-      high = r.high;
-      wide = r.wide;
-      fits = omega (arith, r.fits, mul-le-mul_right {m = k + n} {n = k + m} D (omega arith));
-      row = r.row;
-      pixel = r.pixel;
-    }
-
--- a color needs no row above
-pub solid_paintable : {D k n : ℕ} {xs : List ℕ} {i : CodeInk} {p : Pixel} (w : ℕ) → HasPlace D k n xs → 1 ≤ w → OfDepth D p → i ≡ solid_ink p → Paintable D w k n xs i
-solid_paintable w h wide of e = rw e (record { low = h.low; high = h.high; wide = wide; fits = h.fits; row = zero-le; pixel = of })
-
-pub solid-is : {i : CodeInk} {p q : Pixel} → i ≡ solid_ink p → p ≡ q → ink_of i ≡ solid q
-solid-is e is = ap (λ (x : CodeInk). ink_of x) e ∙ ap solid is
+  -- the first ones
+  pub front-painted : {ink : ℕ → Ink} {xs ys : List ℕ} → i ≡ 0 → Paints t ink xs ys → Painted s.bytes s.width ink s.start n xs ys
+  front-painted e p = rw (← add-zero s.start) (rw e at (painted_in p))
 
 -- ---- a background run
 
-pub insert-none : {insert : Bool} (fg bg : Ink) (j : ℕ) → insert ≡ false → bg ≡ insert_ink insert fg bg j
-unfolding insert_ink
-insert-none fg bg j e = rw e
-
-pub insert-first : {insert : Bool} (fg bg : Ink) → insert ≡ true → fg ≡ insert_ink insert fg bg 0
-unfolding insert_ink
-insert-first fg bg e = rw e
-
-pub insert_later : (insert : Bool) (fg bg : Ink) (j : ℕ) → bg ≡ insert_ink insert fg bg (1 + j)
-unfolding insert_ink
-insert_later true fg bg j = rw (ne_eqb (1 + j) 0 (λ e. omega arith))
-insert_later false fg bg j = refl
+-- an inserted pixel, and the background behind it
+pub inserted-painted : {s t : Span} {xs ys zs : List ℕ} → IsPart s 1 (s.pixels - 1) t → 1 ≤ s.pixels → (fg bg : CodeInk)
+    → PaintedOne s.bytes s.width (ink_of fg) (s.start + 0) xs ys → Paints t (λ _. ink_of bg) ys zs → Paints s (insert_inks (Some fg) bg) xs zs
+inserted-painted {s} is some fg bg first rest =
+    let n : 1 + (s.pixels - 1) ≡ s.pixels = omega arith in
+    painted_at n
+    (painted_join _ _ _ 1 _ _ _ _ _ (first-painted _ _ _ (insert_inks (Some fg) bg) _ _ first)
+    (painted_as (λ j b. rw (ne_eqb (1 + j) 0 (λ e. omega arith))) (painted_in is rest)))
 
 -- ---- masks and turns
-
--- masks that look at the row above find it there
-pub mask_row : {D w k n : ℕ} {xs : List ℕ} (i : CodeInk) → Paintable D w k n xs i → is_solid i.mode ≡ false → (w ≤ k) × (w * D ≤ k * D)
-mask_row {D} {w} {k} i place e = let h = go i.mode e place.row in (h, mul-le-mul_right {m = w} {n = k} D h)
-  where
-    go : (m : Mode) → is_solid m ≡ false → reach m w ≤ k → w ≤ k
-    go Solid f h = clash refl f
-    go Above f h = h
-    go AboveXor f h = h
-
--- the inks of the bits are the code's
-pub painted_by_masks : {D w k n : ℕ} {xs ys : List ℕ} {fg bg : CodeInk} {first : Bool} → MaskInks fg bg → first ≡ is_solid fg.mode → (masks : List ℕ)
-    → Painted D w (image_ink (fg_ink first fg.pixel) (bg_ink first (0 ∷ 0 ∷ 0 ∷ [])) masks) k n xs ys → Painted D w (image_ink (ink_of fg) (ink_of bg) masks) k n xs ys
-painted_by_masks {fg = fg} inks e masks p =
-    painted_as
-    (λ j b. (λ t. image_ink (fg_ink (e t) fg.pixel) (bg_ink (e t) (0 ∷ 0 ∷ 0 ∷ [])) masks j) ∙ (λ t. image_ink (sym inks.one t) (sym inks.zero t) masks j)) p
 
 -- a mask's pixels, then those of the masks behind it
 pub image_later : (fg bg : Ink) (src : List ℕ) (from m j : ℕ) → image_ink fg bg (drop (from + m) src) j ≡ image_ink fg bg (drop from src) (m * 8 + j)
@@ -277,17 +227,7 @@ pub turn-pixel : (D : ℕ) (a b : Pixel) (t : Bool) → OfDepth D a → OfDepth 
 turn-pixel D a b true p q = p
 turn-pixel D a b false p q = q
 
--- ---- pixels in one color each, for which the row above does not matter
-
-pub one-stored : {D k : ℕ} {xs ys : List ℕ} {p : Pixel} {ink : Ink} → 1 ≤ D → D ≤ 3 → (k + 1) * D ≤ length xs → OfDepth D p → solid p ≡ ink
-    → ys ≡ store_pixel D xs (k * D) p → (w : ℕ) → PaintedOne D w ink k xs ys
-unfolding color
-one-stored {D} {k} {xs} {ys} {p} low high fits of i e w =
-    one_as i (painted_one_of D w k xs ys p (solid p) low high fits of refl e)
-
--- pixel i of n has its place
-pub one_place : {D k n : ℕ} {xs : List ℕ} (ys : List ℕ) (i : ℕ) → HasPlace D k n xs → i < n → length ys ≡ length xs → (k + i + 1) * D ≤ length ys
-one_place {D} {k} {n} ys i p h e = omega (arith, p.fits, mul-le-mul_right {m = k + i + 1} {n = k + n} D (omega arith))
+-- ---- pixels in one color each
 
 pub dither_solid : {p : Pixel} (a b : Pixel) (j : ℕ) → p ≡ pick (eqb (j % 2) 0) a b → solid p ≡ dither_ink a b j
 unfolding dither_ink

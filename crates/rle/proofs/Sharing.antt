@@ -6,16 +6,17 @@ use mathlib.Core.Logic.{◌⊎◌, inl, inr}
 use Rattle.rle.specs.declared.kind.Kind.{Kind as CodeKind}
 use Rattle.rle.specs.declared.kind.Kind.TheVariants as kinds
 use Rattle.rle.specs.Kinds.{kind_in, sets_foreground}
-use Prim.Native.Nat.{ℕ, ◌+◌, ◌*◌, ◌-◌, ◌/◌, ◌%◌, ◌≤◌, ◌<◌}
-use native.Mathlib.Nat.{add-zero}
+use Prim.Native.Nat.{ℕ, ◌+◌, ◌*◌, ◌-◌, ◌/◌, ◌%◌, ◌≤◌, ◌<◌, zero-le}
+use native.Mathlib.Nat.{add-zero, zero-add}
+use borrow.Author.Tests.{le-leb}
 use native.Mathlib.Omega.{arith}
 use lib.Dec.{leb}
 use lib.ListN.{length, drop}
 use lib.Seq.{drop-drop}
 use Rattle.rle.specs.declared.state.State.{State as CodeState}
-use Rattle.rle.specs.declared.state.Frame.{Frame as CodeFrame}
+use Rattle.rle.specs.declared.frame.Frame.{Frame as CodeFrame}
 use Rattle.rle.specs.declared.state.Stepped.{Stepped}
-use Rattle.rle.specs.declared.paint.Mode.TheVariants.{AboveXor}
+use Rattle.rle.specs.declared.span.Span.{Span}
 use Rattle.rle.specs.declared.paint.Ink.{Ink as CodeInk}
 use Rattle.rle.specs.declared.plan.Plan.{Plan as CodePlan}
 use Rattle.base.specs.Picks.{pick}
@@ -24,16 +25,16 @@ use Rattle.picture.specs.Sizes.{Frame}
 use Rattle.base.proofs.Tests.{by_test, apart}
 use Rattle.definition.specs.Orders.{FgBgImage, SetFgBgImage}
 use Rattle.definition.specs.Decode.{Ink, solid, fg_ink, bg_ink, State, order_of}
-use Rattle.definition.specs.Plan.{Counts, behind, with_operands, run_counts, counts_of, leaves_insert, new_foreground, foreground_by, image_ink, kind_ink, leaves, insert_in, foreground_in}
+use Rattle.definition.specs.Plan.{Counts, behind, with_operands, run_counts, counts_of, leaves_insert, new_foreground, foreground_by, image_ink, kind_ink, leaves, foreground_in}
 use Rattle.rle.specs.Planning.{counts_in}
-use Rattle.rle.specs.Painting.{Paintable, Painted, ink_of, MaskInks}
-use Rattle.rle.specs.States.{frame_of, state_of, fg_of, bg_of, with_fg, finished_of}
+use Rattle.rle.specs.Painting.{HasColor, Paintable, Painted, ink_of, zero_ink}
+use Rattle.rle.specs.States.{frame_of, fg_of, with_fg, IsSpan, finished_of}
 use Rattle.rle.specs.Orders.{Ready, Executes}
 use Rattle.rle.proofs.Painting.{painted_as}
 use Rattle.definition.proofs.Masks.{image-masks}
 use Rattle.definition.proofs.Planned.{ink_by, run-most}
-use Rattle.rle.proofs.Inks.{row-reach, foreground_of_depth, state-masks, fg-is, bg-is}
-use Rattle.rle.proofs.Orders.{paintable, within, Leaves, executes_finished}
+use Rattle.rle.proofs.Inks.{fg_paintable, fg_color, foreground_of_depth, fg-is, zero-is}
+use Rattle.rle.proofs.Orders.{executes_finished}
 
 -- only a set-foreground order has a foreground of its own
 pub foreground_is : (D : ℕ) (k : CodeKind) (p : Pixel) (xs : List ℕ) → foreground_by D (kind_in k) p xs ≡ pick (sets_foreground k) (new_foreground D p xs) p
@@ -52,6 +53,20 @@ foreground_is D kinds.White p xs = refl
 foreground_is D kinds.Black p xs = refl
 foreground_is D kinds.NoOrder p xs = refl
 
+-- a foreground run has one of its own, or the state's
+abbrev pub IsRun : CodeKind → Type 0
+IsRun k = (k ≡ kinds.FgRun) ⊎ (k ≡ kinds.SetFgRun)
+
+pub run_counts_by : (D n a R : ℕ) {k : CodeKind} → IsRun k → with_operands (pick (sets_foreground k) D 0) a (run_counts D n R) ≡ counts_of D (kind_in k) n a R
+unfolding counts_of with_operands behind
+run_counts_by D n a R (inl e) = rw (e, le-leb 0 a zero-le, zero-add)
+run_counts_by D n a R (inr e) = rw e
+
+pub run_ink : (f : Frame) (s : State) {k : CodeKind} → IsRun k → (j : ℕ) → fg_ink s.first_row (foreground_by f.bytes (kind_in k) s.foreground s.left) ≡ ink_by f (kind_in k) s j
+unfolding kind_ink
+run_ink f s (inl e) j = rw e
+run_ink f s (inr e) j = rw e
+
 -- a special fg/bg image has one of two masks
 abbrev pub IsSpecial : CodeKind → Type 0
 IsSpecial k = (k ≡ kinds.SpecialFgBg1) ⊎ (k ≡ kinds.SpecialFgBg2)
@@ -61,10 +76,10 @@ unfolding counts_of
 special_counts D n a R (inl e) = rw e
 special_counts D n a R (inr e) = rw e
 
-pub special_leaves : (D : ℕ) (s : CodeState) (xs : List ℕ) {k : CodeKind} → IsSpecial k → Leaves D (kind_in k) s xs s false
-unfolding foreground_in insert_in leaves
-special_leaves D s xs (inl e) = rw e (record { state = refl; insert = refl })
-special_leaves D s xs (inr e) = rw e (record { state = refl; insert = refl })
+pub special_leaves : (D : ℕ) (s : CodeState) (xs : List ℕ) {k : CodeKind} → IsSpecial k → s ≡ with_fg s (foreground_by D (kind_in k) s.foreground xs)
+unfolding foreground_in leaves
+special_leaves D s xs (inl e) = rw e
+special_leaves D s xs (inr e) = rw e
 
 pub special_few : (D R : ℕ) (p : CodePlan) → counts_in p ≡ run_counts D 8 R → p.pixels ≤ 8
 special_few D R p e = subst (λ (c : Counts). c.pixels ≤ 8) (sym e) (run-most D 8 R)
@@ -92,11 +107,11 @@ special_ink f s (inr e) m first second j few =
 abbrev pub IsPixel : CodeKind → Type 0
 IsPixel k = (k ≡ kinds.White) ⊎ ((k ≡ kinds.Black) ⊎ (k ≡ kinds.NoOrder))
 
-pub pixel-leaves : (D : ℕ) (s : CodeState) (xs : List ℕ) {k : CodeKind} → IsPixel k → Leaves D (kind_in k) s xs s false
-unfolding foreground_in insert_in leaves
-pixel-leaves D s xs (inl e) = rw e (record { state = refl; insert = refl })
-pixel-leaves D s xs (inr (inl e)) = rw e (record { state = refl; insert = refl })
-pixel-leaves D s xs (inr (inr e)) = rw e (record { state = refl; insert = refl })
+pub pixel-leaves : (D : ℕ) (s : CodeState) (xs : List ℕ) {k : CodeKind} → IsPixel k → s ≡ with_fg s (foreground_by D (kind_in k) s.foreground xs)
+unfolding foreground_in leaves
+pixel-leaves D s xs (inl e) = rw e
+pixel-leaves D s xs (inr (inl e)) = rw e
+pixel-leaves D s xs (inr (inr e)) = rw e
 
 -- no matter what is left of the stream
 pub pixel_counts : (D n a R : ℕ) {k : CodeKind} → IsPixel k → counts_of D (kind_in k) n 0 R ≡ counts_of D (kind_in k) n a R
@@ -130,11 +145,7 @@ module _ (f : Frame) (a R : ℕ) (p : CodePlan) where
       let n : j < 0 = subst (λ (c : Counts). j < c.pixels) (rw e at plans) h in
       absurd (omega arith)
 
--- an fg/bg image, with a foreground of its own or without
-pub image-leaves : (t : Bool) → false ≡ leaves_insert (pick t SetFgBgImage FgBgImage)
-unfolding insert_in leaves
-image-leaves true = refl
-image-leaves false = refl
+-- ---- an fg/bg image, with a foreground of its own or without
 
 -- its ink, by the masks behind the foreground
 pub image_ink_lem : (f : Frame) (i : Bool) (fg bg : Ink) (pos : ℕ) (src : List ℕ) (t : Bool) (j : ℕ)
@@ -150,37 +161,28 @@ image-enough D n a R true =
     by_test (λ (c : Counts). c.pixels ≤ (a - D) * 8) (leb D a) (λ e. image-masks D n (a - D) R) (λ e. omega arith)
 image-enough D n a R false = omega (arith, image-masks D n a R)
 
--- u, i, j, size: the state, the inks and the foreground's bytes that the code has
-module _ (f : CodeFrame) (src dst : List ℕ) (s : CodeState) (t : Bool) {u : CodeState} {i j : CodeInk} {size : ℕ}
-    (state : u ≡ with_fg s (foreground_by f.depth.bytes (pick t SetFgBgImage FgBgImage) s.foreground (drop s.pos src))) (fg : i ≡ fg_of u) (bg : j ≡ bg_of f u)
-    (sized : size ≡ pick t f.depth.bytes 0) where
-  pub image_inks : (k n : ℕ) {after : List ℕ} → Painted f.depth.bytes f.width (image_ink (ink_of i) (ink_of j) (drop (s.pos + size) src)) k n dst after
-      → Painted f.depth.bytes f.width (ink_by (frame_of f) (pick t SetFgBgImage FgBgImage) (state_of (frame_of f) src dst s)) k n dst after
-  image_inks k n p =
-      painted_as
-      (λ m _. (λ h. image_ink (fg-is s state fg h) (bg-is f s state bg h) (drop (s.pos + sized h) src) m)
-      ∙ image_ink_lem (frame_of f) _ _ _ s.pos src t m)
-      p
+-- u, i, size: the state, the foreground's ink and its bytes that the code has
+module _ (f : CodeFrame) (src dst : List ℕ) (s : CodeState) (t : Bool) {u : CodeState} {i : CodeInk} {size : ℕ}
+    (state : u ≡ with_fg s (foreground_by f.depth.bytes (pick t SetFgBgImage FgBgImage) s.foreground (drop s.pos src))) (fg : i ≡ fg_of u)
+    (sized : size ≡ pick t f.depth.bytes 0) {n : ℕ} (ready : Ready (length dst) (frame_of f) s n) (p : CodePlan)
+    (plans : counts_in p ≡ counts_of f.depth.bytes (pick t SetFgBgImage FgBgImage) n (length src - s.pos) (f.total - s.pixels)) where
+  pub image_paintable : {span : Span} → IsSpan f s p.pixels span → Paintable span i × HasColor i
+  image_paintable is =
+      rw (fg, state)
+      (fg_paintable is ready.invariant.row (foreground_of_depth ready.frame ready.invariant.foreground (drop s.pos src) (leaves (pick t SetFgBgImage FgBgImage))), fg_color (with_fg s (foreground_by f.depth.bytes (pick t SetFgBgImage FgBgImage) s.foreground (drop s.pos src))))
 
-  pub image_paintable : {n : ℕ} → Ready (length dst) (frame_of f) s n → (p : CodePlan)
-      → counts_in p ≡ counts_of f.depth.bytes (pick t SetFgBgImage FgBgImage) n (length src - s.pos) (f.total - s.pixels)
-      → Paintable f.depth.bytes f.width s.pixels p.pixels dst i
-      × ((p.pixels ≤ (length src - (s.pos + size)) * 8) × MaskInks i j)
-  image_paintable {n} ready p plans =
-      let k = pick t SetFgBgImage FgBgImage in
-      let w = within ready k (length src - s.pos) p plans in
-      let inv = ready.invariant in
+  pub image_masks : p.pixels ≤ (length src - (s.pos + size)) * 8
+  image_masks =
       let enough = subst (λ (c : Counts). c.pixels ≤ (length src - s.pos - pick t f.depth.bytes 0) * 8) (sym plans)
-      (image-enough f.depth.bytes n (length src - s.pos) (f.total - s.pixels) t) in (
-        rw (fg, state)
-            (paintable dst p.pixels ready w.pixels _ (row-reach AboveXor inv) (foreground_of_depth ready.frame inv.foreground (drop s.pos src) (leaves k))),
-        (rw sized (omega (arith, enough)), state-masks u f ready.frame.black fg bg),
-      )
+      (image-enough f.depth.bytes n (length src - s.pos) (f.total - s.pixels) t) in
+      rw sized (omega (arith, enough))
 
-  pub image_executes : {n : ℕ} → Ready (length dst) (frame_of f) s n → s.pos ≤ length src → (p : CodePlan)
-      → counts_in p ≡ counts_of f.depth.bytes (pick t SetFgBgImage FgBgImage) n (length src - s.pos) (f.total - s.pixels)
-      → {r : Stepped} {after : List ℕ} → r ≡ finished_of u p false
-      → Painted f.depth.bytes f.width (image_ink (ink_of i) (ink_of j) (drop (s.pos + size) src)) s.pixels p.pixels dst after
+  pub image_executes : s.pos ≤ length src → {r : Stepped} {after : List ℕ} → r ≡ finished_of u p (leaves_insert (pick t SetFgBgImage FgBgImage))
+      → Painted f.depth.bytes f.width (image_ink (ink_of i) (zero_ink i) (drop (s.pos + size) src)) s.pixels p.pixels dst after
       → Executes (frame_of f) src dst after s r (order_of (frame_of f) (pick t SetFgBgImage FgBgImage) n)
-  image_executes ready place p plans is painted =
-      executes_finished _ _ _ ready place _ p plans (record { state = state; insert = image-leaves t }) is (image_inks _ _ painted)
+  image_executes place is painted =
+      executes_finished _ _ _ ready place _ p plans state is
+      (painted_as
+      (λ m _. (λ h. image_ink (fg-is s state fg h) (zero-is f s ready.frame.black state fg h) (drop (s.pos + sized h) src) m)
+      ∙ image_ink_lem (frame_of f) _ _ _ s.pos src t m)
+      painted)

@@ -6,7 +6,7 @@ use Prim.Native.Nat.{ℕ, suc, ◌*◌, ◌≤◌, ◌<◌, zero-le}
 use native.Mathlib.Nat.{le_refl, lt_of_not-le}
 use native.Mathlib.Omega.{arith}
 use lib.ListN.{length, drop, drop_of_length-le, length-drop}
-use Rattle.rle.specs.declared.state.Frame.{Frame as CodeFrame}
+use Rattle.rle.specs.declared.frame.Frame.{Frame as CodeFrame}
 use Rattle.rle.specs.declared.state.State.{State as CodeState}
 use Rattle.rle.specs.declared.head.OrderHead.{OrderHead}
 use Rattle.rle.specs.declared.state.Stepped.{Stepped}
@@ -45,7 +45,7 @@ module _ (f : CodeFrame) (src dst : List ℕ) (s : CodeState) (begun : first_row
 
   -- its head was read
   pub order_executes : {o : OrderHead} → HeadAt src s.pos o → (after : List ℕ) (r : Stepped)
-      → Executes (frame_of f) src dst after (at_pos s o.next) r (order_of (frame_of f) (kind_in o.kind) o.run_length)
+      → Executes (frame_of f) src dst after (at_pos s o.next) r (order_of (frame_of f) (kind_in o.kind) o.run_length.pixels)
       → Executes (frame_of f) src dst after s r (step (frame_of f))
   unfolding order_from with_left
   order_executes at after r d =
@@ -61,7 +61,7 @@ module _ (f : CodeFrame) (src dst : List ℕ) (s : CodeState) (begun : first_row
 
   -- and the order reads on
   pub order_read : {o : OrderHead} → HeadAt src s.pos o → (after : List ℕ) (r : Stepped)
-      → Executes (frame_of f) src dst after (at_pos s o.next) r (order_of (frame_of f) (kind_in o.kind) o.run_length)
+      → Executes (frame_of f) src dst after (at_pos s o.next) r (order_of (frame_of f) (kind_in o.kind) o.run_length.pixels)
       → Executes (frame_of f) src dst after s r (step (frame_of f)) × (s.pos < r.state.pos) × (s.pos < length src)
   order_read at after r d = (order_executes at after r d, omega (arith, at.reads, d.reads), omega (arith, at.reads, at.place))
 
@@ -82,11 +82,16 @@ module _ (f : CodeFrame) (src dst : List ℕ) (s : CodeState) (begun : first_row
 
 -- ---- the whole stream
 
-pub between_start : (f : CodeFrame) (src dst : List ℕ) → Framed (length dst) (frame_of f) → BetweenOrders (frame_of f) src dst dst (start_of f)
+-- a frame goes with each target that has its picture's place
+pub framed : (f : CodeFrame) (given : ℕ) → f.total * f.depth.bytes ≤ given → Framed given (frame_of f)
+framed f given fits =
+    record { low = f.low; high = f.high; wide = f.wide; few = f.few; fits = fits; white = f.white; black = f.black }
+
+pub between_start : (f : CodeFrame) (src dst : List ℕ) → BetweenOrders (frame_of f) src dst dst (start_of f)
 unfolding start pixels_of
-between_start f src dst frame =
+between_start f src dst =
     record {
-      invariant = record { within = zero-le; row = zero-le; foreground = frame.white; counted = zero-le };
+      invariant = record { within = zero-le; row = zero-le; foreground = f.white; counted = zero-le };
       place = zero-le;
       same = refl;
       rest = refl;

@@ -1,21 +1,18 @@
 -- Laws of a walk without a target: an order's progress and record are its plan's, and the orders from each state that the walk stands
 -- for are those of the definition. Assumes nothing.
 use mathlib.Core.Path.{◌≡◌, refl, ap, sym, ◌∙◌}
-use mathlib.Core.Bool.{Bool, false}
 use mathlib.Core.List.{List}
 use Prim.Native.Nat.{ℕ, ◌+◌, ◌-◌, ◌≤◌, ◌<◌, zero-le}
 use native.Mathlib.Nat.{le_refl, add-zero, sub-zero}
 use native.Mathlib.Omega.{arith}
-use lib.Dec.{ltb}
 use lib.ListN.{length, drop, length-drop, drop_of_length-le}
 use lib.Seq.{drop-drop, get_or-drop}
-use Rattle.base.specs.Picks.{pick}
 use Rattle.rle.specs.declared.head.OrderHead.{OrderHead}
 use Rattle.std.specs.Prelude.{Some, None, Ok, Err}
 use Rattle.rle.specs.declared.head.NoLength.{NoLength}
 use Rattle.rle.specs.declared.plan.Plan.{Plan as CodePlan}
 use Rattle.rle.specs.declared.record.OrderRecord.{OrderRecord}
-use Rattle.rle.specs.declared.state.Frame.{Frame as CodeFrame}
+use Rattle.rle.specs.declared.frame.Frame.{Frame as CodeFrame}
 use Rattle.rle.specs.declared.walk.Walk.{Walk}
 use Rattle.picture.specs.declared.outcome.RleError.{RleError}
 use Rattle.picture.specs.Sizes.{Frame}
@@ -32,7 +29,7 @@ use Rattle.rle.specs.Heads.{HeadAt, RefusedAt}
 use Rattle.rle.specs.Planning.{counts_in, ending_in}
 use Rattle.rle.specs.Records.{record_in}
 use Rattle.rle.specs.States.{frame_of}
-use Rattle.rle.specs.Walking.{record_at, ReachesOrder, RunsOut, WalksOrders}
+use Rattle.rle.specs.Walking.{row_ended, record_at, ReachesOrder, RunsOut, WalksOrders}
 use Rattle.rle.specs.Walks.{StandsFor}
 
 -- ---- progress
@@ -74,19 +71,12 @@ pub record CompletesOrder (f : Frame) (src : List ℕ) (w v : Walk) : Type 0 whe
   pub some : w.pixels < v.pixels
   pub within : v.pixels ≤ f.total
 
--- the first-row mark and the pending insert at the order's start
-abbrev pub mark_at : CodeFrame → Walk → Bool
-mark_at f w = pick w.first_row (ltb w.pixels f.width) false
-
-abbrev pub insert_at : CodeFrame → Walk → Bool
-insert_at f w = pick w.first_row (pick (ltb w.pixels f.width) w.insert false) w.insert
-
 module _ (f : CodeFrame) (src : List ℕ) (w : Walk) (within : w.pixels ≤ f.total) where
   -- its head was read
   module _ {o : OrderHead} (at : HeadAt src w.pos o) (p : CodePlan)
-      (plans : counts_in p ≡ counts_of f.depth.bytes (kind_in o.kind) o.run_length (length src - o.next) (f.total - w.pixels)) where
+      (plans : counts_in p ≡ counts_of f.depth.bytes (kind_in o.kind) o.run_length.pixels (length src - o.next) (f.total - w.pixels)) where
     pub enough : Within (length src - o.next) (f.total - w.pixels) (counts_in p)
-    enough = rw plans (kind-within f.depth.bytes (kind_in o.kind) o.run_length (length src - o.next) (f.total - w.pixels) at.some)
+    enough = rw plans (kind-within f.depth.bytes (kind_in o.kind) o.run_length.pixels (length src - o.next) (f.total - w.pixels) o.run_length.some)
 
     pub order-refused : (e : RleError) → p.ending ≡ Err e → RefusesOrder (frame_of f) src w e (w.pixels + p.pixels)
     unfolding plan_of plan_from plan_by past_first_row orders_after
@@ -101,7 +91,7 @@ module _ (f : CodeFrame) (src : List ℕ) (w : Walk) (within : w.pixels ≤ f.to
 
     pub order-completed : p.ending ≡ Ok tt
         → CompletesOrder (frame_of f) src w
-        (record { pos = o.next + p.read; pixels = w.pixels + p.pixels; insert = leaves_insert (kind_in o.kind); first_row = mark_at f w })
+        (record { pos = o.next + p.read; pixels = w.pixels + p.pixels; insert = leaves_insert (kind_in o.kind); first_row = (row_ended f.width w).first_row })
     unfolding plan_of plan_from plan_by past_first_row insert_after orders_after
     order-completed is =
         record {
@@ -114,7 +104,7 @@ module _ (f : CodeFrame) (src : List ℕ) (w : Walk) (within : w.pixels ≤ f.to
         }
 
     -- its record is the plan's
-    pub record_walked : (k : ℕ) → record_in (record_at o p.pixels (mark_at f w) (insert_at f w)) ≡ plan_record (plan_of (frame_of f) (progress_in src k w))
+    pub record_walked : (k : ℕ) → record_in (record_at o (row_ended f.width w) p.pixels) ≡ plan_record (plan_of (frame_of f) (progress_in src k w))
     unfolding plan_record plan_of plan_from plan_by past_first_row
     record_walked k = rw (at.is, length-drop, ← plans, get_or-drop, add-zero, ← at.header, at.stands)
 

@@ -13,10 +13,9 @@ use lib.Seq.{get_or-drop, get_or-take, get_or-append-add, length-take-le}
 use Rattle.base.specs.Picks.{pick}
 use Rattle.picture.specs.Pixels.{Pixel, pixel_at, pixels_of, xor_pixel, OfDepth}
 use Rattle.picture.proofs.Pixels.{first_pixel_cong, get_or-first_pixel, zeros_of_depth, of_depth, length_of_depth, pixels_cong}
-use Rattle.definition.specs.Decode.{Ink, solid, above, above_xor, color, paint, pixel_above, fg_ink, bg_ink, mask_ink, dither_ink}
+use Rattle.definition.specs.Decode.{Ink, solid, above, above_xor, color, paint, pixel_above, mask_ink, dither_ink}
 use Rattle.definition.specs.Plan.{image_ink}
 use Rattle.byte_runs.specs.Runs as runs
-use Rattle.std.specs.Prelude.{None, Some}
 use Rattle.byte_runs.specs.Runs.{run, taken, turn, bytes, xored, pair_of, inked, masked_by, row_bytes}
 use Rattle.byte_runs.proofs.Runs.{Backward, run_settled}
 use Rattle.byte_runs.proofs.Blocks.{backward_above}
@@ -228,7 +227,7 @@ module _ (D w k n : ℕ) (xs : List ℕ) (low : 1 ≤ D) (high : D ≤ 3) (fits 
       (λ j h. turn-pixel D p q (eqb (j % 2) 0) of of') (λ j i h b. pair_byte D j i p q (rw (length_of_depth D p of) high) b)
 
   -- by masks in the first row, where a bit of 0 is zeros
-  first-painted : (s : List ℕ) (from : ℕ) (p : Pixel) → OfDepth D p
+  pub first-painted : (s : List ℕ) (from : ℕ) (p : Pixel) → OfDepth D p
       → Painted D w (image_ink (solid p) (solid (0 ∷ 0 ∷ 0 ∷ [])) (drop from s)) k n xs (run (bytes (masked_by s from D p)) (k * D) (n * D) xs)
   first-painted s from p of =
       let ys : List ℕ = run (bytes (masked_by s from D p)) (k * D) (n * D) xs in
@@ -237,7 +236,7 @@ module _ (D w k n : ℕ) (xs : List ℕ) (low : 1 ≤ D) (high : D ≤ 3) (fits 
       (λ j i h b. masked_byte D j i s from p low b ∙ rw (← bit_ink) (first_by w (pixels_of D (k + j) ys) p (eqb (bit_of s from j) 1) i (omega arith)))
 
   -- by masks in later rows
-  later_painted : 1 ≤ w → w ≤ k → (s : List ℕ) (from : ℕ) (p : Pixel) → OfDepth D p
+  pub later_painted : 1 ≤ w → w ≤ k → (s : List ℕ) (from : ℕ) (p : Pixel) → OfDepth D p
       → Painted D w (image_ink (above_xor p) above (drop from s)) k n xs (run (xored (k * D) (w * D) (masked_by s from D p)) (k * D) (n * D) xs)
   later_painted wide row s from p of =
       let ys : List ℕ = run (xored (k * D) (w * D) (masked_by s from D p)) (k * D) (n * D) xs in
@@ -247,11 +246,3 @@ module _ (D w k n : ℕ) (xs : List ℕ) (low : 1 ≤ D) (high : D ≤ 3) (fits 
       (λ j i h b.
       (λ t. bit_xor (above_byte D w k j i ys low high wide row b t) (masked_byte D j i s from p low b t))
       ∙ rw (← bit_ink) (later_by w (pixels_of D (k + j) ys) p (eqb (bit_of s from j) 1) i (omega arith)))
-
-  -- by masks in whichever row
-  pub rows-painted : (first : Bool) → 1 ≤ w → (first ≡ false → w ≤ k) → (s : List ℕ) (from : ℕ) (p : Pixel) → OfDepth D p
-      → Painted D w (image_ink (fg_ink first p) (bg_ink first (0 ∷ 0 ∷ 0 ∷ [])) (drop from s)) k n xs
-      (run (row_bytes (pick first None (Some (w * D))) (k * D) (masked_by s from D p)) (k * D) (n * D) xs)
-  unfolding fg_ink bg_ink
-  rows-painted true wide row s from p of = first-painted s from p of
-  rows-painted false wide row s from p of = later_painted wide (row refl) s from p of

@@ -69,14 +69,12 @@ pub record ReadsLength (src : List ℕ) (pos : ℕ) (place : Place) (r : Result 
 
 -- an order's head stands from place `pos` on
 pub record HeadAt (src : List ℕ) (pos : ℕ) (o : OrderHead) : Type 0 where
-  pub is : head_of (drop pos src) ≡ head (kind_in o.kind) o.run_length (drop o.next src)
+  pub is : head_of (drop pos src) ≡ head (kind_in o.kind) o.run_length.pixels (drop o.next src)
   pub header : o.header ≡ get_or src pos 0
   pub stands : place_in o.place ≡ place_of (row_of o.header) o.header
-  pub some : 1 ≤ o.run_length
-  pub few : o.run_length ≤ 65536
   pub reads : pos < o.next
   pub place : o.next ≤ length src
-  pub fixed : fixed_length o.kind o.run_length
+  pub fixed : fixed_length o.kind o.run_length.pixels
 
 -- a run length is refused behind place `pos`
 pub record RefusedAt (src : List ℕ) (pos : ℕ) (r : NoLength) : Type 0 where

@@ -8,6 +8,7 @@ pub mod Planning
 pub mod Painting
 pub mod States
 pub mod Orders
+pub mod Carrying
 pub mod Operands
 pub mod Walks
 pub mod Walking

@@ -1,12 +1,7 @@
--- What the plain decoder's painting asks: a place for the pixels, and the operands that they are painted with.
-use Rattle.std.specs.Prelude.{◌≡◌, List, ℕ, ◌-◌, ◌*◌, ◌≤◌, ◌<◌, length}
-use Rattle.picture.specs.Pixels.{OfDepth}
-use Rattle.rle.specs.declared.state.Frame.{Frame as CodeFrame}
-use Rattle.rle.specs.declared.state.State.{State as CodeState}
+-- What the plain decoder's painting asks of the stream: the operands that the pixels are painted with.
+use Rattle.std.specs.Prelude.{◌≡◌, ℕ, ◌-◌, ◌*◌, ◌≤◌, ◌<◌}
 use Rattle.rle.specs.declared.kind.Kind.{Kind as CodeKind}
 use Rattle.rle.specs.declared.kind.Kind.TheVariants.{BgRun, FgRun, FgBgImage, ColorRun, ColorImage, SetFgRun, SetFgBgImage, DitheredRun, SpecialFgBg1, SpecialFgBg2, White, Black, NoOrder}
-use Rattle.rle.specs.Painting.{Paintable}
-use Rattle.rle.specs.States.{fg_of, bg_of}
 
 -- n pixels of D bytes of an order of this kind have their operands in the a bytes that are left; no order has no pixels
 abbrev pub HasOperands : CodeKind → ℕ → ℕ → ℕ → Type 0
@@ -23,11 +18,3 @@ HasOperands SpecialFgBg2 D n a = Unit {0}
 HasOperands White D n a = Unit {0}
 HasOperands Black D n a = Unit {0}
 HasOperands NoOrder D n a = n ≡ 0
-
--- n pixels of an order of this kind can be painted in the state s, which has the order's foreground
-pub record ReadyToPaint (src dst : List ℕ) (f : CodeFrame) (s : CodeState) (k : CodeKind) (n : ℕ) : Type 0 where
-  pub fg : Paintable f.depth.bytes f.width s.pixels n dst (fg_of s)
-  pub bg : Paintable f.depth.bytes f.width s.pixels n dst (bg_of f s)
-  pub white : OfDepth f.depth.bytes f.depth.white
-  pub place : s.pos ≤ length src
-  pub operands : HasOperands k f.depth.bytes n (length src - s.pos)

@@ -1,5 +1,5 @@
 -- What the functions of report.rt promise: the report that an ending and counts make.
-use Rattle.std.specs.Prelude.{ℕ, Ok, Err}
+use Rattle.std.specs.Prelude.{ℕ, Result, Ok, Err}
 use Rattle.picture.specs.declared.outcome.RleError.{RleError}
 use Rattle.picture.specs.Sizes.{Refusal, refusal}
 use Rattle.picture.specs.Outcomes.{refusal_of}
@@ -22,3 +22,8 @@ summary_after e k painted completed = summary (refusal_after e) (format_after e 
 -- a picture that was refused before its stream
 abbrev pub not_decoded : RleError → Report
 not_decoded e = record { outcome = Err e; pixels = 0; orders = 0 }
+
+-- the report of a call that was refused before its stream, or was not
+abbrev pub report_in : Result Report RleError → Report
+report_in (Ok r) = r
+report_in (Err e) = not_decoded e

@@ -1,18 +1,19 @@
 -- The code's frame and state: what they stand for in the definition, what holds of a state between orders, and the states that the
 -- functions of state.rt answer.
-use Rattle.std.specs.Prelude.{Bool, true, false, Result, Ok, Err, ◌≡◌, List, [], ◌∷◌, ℕ, ◌+◌, ◌*◌, ◌≤◌, ltb, drop}
+use Rattle.std.specs.Prelude.{Bool, true, false, Option, Result, Ok, Err, ◌≡◌, List, [], ◌∷◌, ℕ, ◌+◌, ◌*◌, ◌≤◌, ltb, drop}
+use Rattle.std.specs.Bool.{then_some}
 use Rattle.base.specs.Picks.{pick}
 use Rattle.picture.specs.Pixels.{Pixel, pixels_of, OfDepth}
 use Rattle.picture.specs.Sizes.{Frame, Checked, accepted, refused}
 use Rattle.picture.specs.Outcomes.{refusal_of, format_of}
 use Rattle.definition.specs.Decode.{State}
 use Rattle.definition.specs.Plan.{insert_after, orders_after}
-use Rattle.rle.specs.declared.paint.Mode.{Mode}
-use Rattle.rle.specs.declared.paint.Mode.TheVariants.{Solid, Above, AboveXor}
 use Rattle.rle.specs.declared.paint.Ink.{Ink as CodeInk}
+use Rattle.rle.specs.declared.paint.Ink.TheVariants.{Solid, Above, AboveXor}
+use Rattle.rle.specs.declared.span.Span.{Span}
 use Rattle.picture.specs.declared.outcome.RleError.{RleError}
 use Rattle.rle.specs.declared.plan.Plan.{Plan as CodePlan}
-use Rattle.rle.specs.declared.state.Frame.{Frame as CodeFrame}
+use Rattle.rle.specs.declared.frame.Frame.{Frame as CodeFrame}
 use Rattle.rle.specs.declared.state.State.{State as CodeState}
 use Rattle.rle.specs.declared.state.Stepped.{Stepped}
 use Rattle.rle.specs.Planning.{ending_in}
@@ -67,18 +68,22 @@ pub record Invariant (f : Frame) (s : CodeState) : Type 0 where
   pub counted : s.orders ≤ s.pixels
 
 -- in the first row a color, later by the pixel above
-abbrev pub row_mode : Bool → Mode → Mode
-row_mode true later = Solid
-row_mode false later = later
-
-abbrev pub row_ink : Bool → Mode → Pixel → CodeInk
-row_ink first later p = record { mode = row_mode first later; pixel = p }
-
 abbrev pub fg_of : CodeState → CodeInk
-fg_of s = row_ink s.first_row AboveXor s.foreground
+fg_of s = pick s.first_row (Solid s.foreground) (AboveXor s.foreground)
 
 abbrev pub bg_of : CodeFrame → CodeState → CodeInk
-bg_of f s = row_ink s.first_row Above f.depth.black
+bg_of f s = pick s.first_row (Solid f.depth.black) Above
+
+-- the ink that a pending insert begins a background run with
+abbrev pub insert_of : CodeState → Option CodeInk
+insert_of s = then_some s.insert (fg_of s)
+
+-- the n pixels that come next
+pub record IsSpan (f : CodeFrame) (s : CodeState) (n : ℕ) (t : Span) : Type 0 where
+  pub bytes : t.bytes ≡ f.depth.bytes
+  pub width : t.width ≡ f.width
+  pub start : t.start ≡ s.pixels
+  pub pixels : t.pixels ≡ n
 
 -- ---- the states that the functions here answer, exactly
 

@@ -1,5 +1,5 @@
 -- What the walk's functions promise each other: the record of an order, and where and how a walk stops.
-use Rattle.std.specs.Prelude.{◌≡◌, List, Option, Some, None, Result, Ok, Err, Bool, false, ℕ, suc, ◌+◌, ◌≤◌, length}
+use Rattle.std.specs.Prelude.{◌≡◌, List, Option, Some, None, Result, Ok, Err, false, ℕ, suc, ◌+◌, ◌≤◌, ltb, length}
 use Rattle.base.specs.Picks.{pick}
 use Rattle.picture.specs.Sizes.{Frame}
 use Rattle.definition.specs.Decode.{State, run}
@@ -17,17 +17,27 @@ use Rattle.rle.specs.Planning.{CodeEnding}
 use Rattle.rle.specs.Records.{record_in}
 use Rattle.rle.specs.Walks.{StandsFor}
 
--- the record of an order with this head, by the pixels that it paints and by how it begins
-abbrev pub record_at : OrderHead → ℕ → Bool → Bool → OrderRecord
-record_at o pixels first insert =
+-- the first row ends at an order's start with a row painted, and a pending insert is dropped
+abbrev pub row_ended : ℕ → Walk → Walk
+row_ended width w =
+    record {
+      pos = w.pos;
+      pixels = w.pixels;
+      insert = pick w.first_row (pick (ltb w.pixels width) w.insert false) w.insert;
+      first_row = pick w.first_row (ltb w.pixels width) false;
+    }
+
+-- the record of an order with this head, which begins where the walk stands, by the pixels that it paints
+abbrev pub record_at : OrderHead → Walk → ℕ → OrderRecord
+record_at o begun pixels =
     record {
       header = o.header;
       place = o.place;
       kind = o.kind;
-      run_length = o.run_length;
+      run_length = o.run_length.pixels;
       pixels = pixels;
-      first_row = first;
-      inserted = pick (leaves_insert (kind_in o.kind)) insert false;
+      first_row = begun.first_row;
+      inserted = pick (leaves_insert (kind_in o.kind)) begun.insert false;
     }
 
 -- how a walk stops: behind the order that was looked for, at the stream's end, or at a refusal

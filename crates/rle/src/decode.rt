@@ -1,20 +1,22 @@
 // The whole stream: the loop over its orders, and a call of a decoder.
-ghost use Rattle.std.specs.Prelude.{◌≡◌, true, ◌≤◌, length};
-ghost use Rattle.rle.specs.States.{frame_of, Framed};
+ghost use Rattle.std.specs.Prelude.{◌≡◌, true, ◌*◌, ◌≤◌, length};
+ghost use Rattle.rle.specs.States.{frame_of};
 ghost use Rattle.rle.specs.Orders.{BetweenOrders, Decodes, DecodesTo};
 ghost use Rattle.rle.specs.Report.{Decompresses};
+ghost use Rattle.rle.specs.Reporting.{report_in};
 
+use crate::frame::Frame;
 use crate::head::read_head;
 use crate::header::Headers;
-use crate::order::order;
+use crate::order::Order;
 use crate::report::Report;
-use crate::state::{Frame, State, Stepped};
+use crate::state::{State, Stepped};
 use picture::RleError;
 
 // A way to carry out all orders of a stream.
 pub(crate) trait Decoder {
     fn decode(src: &[u8], dst: &mut [u8], f: Frame) -> Stepped
-        requires { Framed (length dst.old) (frame_of f) }
+        requires { f.total * f.depth.bytes ≤ length dst.old }
         ensures { Decodes (frame_of f) src.now dst.old dst.new result };
 }
 
@@ -25,20 +27,17 @@ pub(crate) fn decompress_by<D: Decoder>(
     width: usize,
     height: usize,
     bpp: usize,
-) -> Report
-    ensures { Decompresses src.now bpp width height dst.old dst.new result }
+) -> Result<Report, RleError>
+    ensures { Decompresses src.now bpp width height dst.old dst.new (report_in result) }
 {
-    let f = match Frame::new(width, height, bpp) {
-        Ok(f) => f,
-        Err(e) => return Report::not_decoded(e),
-    };
+    let f = Frame::new(width, height, bpp)?;
     let needed = f.total * f.depth.bytes;
     let given = dst.len();
     if given < needed {
-        return Report::not_decoded(RleError::BufferTooShort { needed, given });
+        return Err(RleError::BufferTooShort { needed, given });
     }
     let r = D::decode(src, dst, f);
-    Report::new(r.ending, r.state.pixels, r.state.orders, f.depth.format)
+    Ok(Report::new(r.ending, r.state.pixels, r.state.orders, f.depth.format))
 }
 
 // Orders from the state s on until `limit` pixels are painted, or to the stream's end or its refusal. In the first row the limit is
@@ -51,7 +50,7 @@ pub(crate) fn orders_to(
     s: State,
     limit: usize,
 ) -> Stepped
-    requires framed { Framed (length dst.old) (frame_of f) }
+    requires fits { f.total * f.depth.bytes ≤ length dst.old }
     requires between_orders { BetweenOrders (frame_of f) src.now dst.old dst.old s }
     requires limit_le_width { s.first_row ≡ true → limit ≤ f.width }
     ensures { DecodesTo limit (frame_of f) src.now dst.old dst.new s result }
@@ -62,7 +61,13 @@ pub(crate) fn orders_to(
             Ok(None) => return t.completed(),
             Err(r) => return t.moved(r.next).refused(r.error),
             Ok(Some(o)) => {
-                let r = order(src, dst, f, t.moved(o.next), o.kind, o.run_length);
+                let next = Order {
+                    src,
+                    frame: f,
+                    state: t.moved(o.next),
+                    run_length: o.run_length,
+                };
+                let r = next.carry_out(dst, o.kind);
                 if r.ending.is_err() {
                     return r;
                 }
@@ -78,29 +83,21 @@ pub(crate) struct Fast;
 
 impl Decoder for Fast {
     fn decode(src: &[u8], dst: &mut [u8], f: Frame) -> Stepped {
-        decompress_impl(src, dst, f)
-    }
-}
-
-// All orders of the stream.
-pub(crate) fn decompress_impl(src: &[u8], dst: &mut [u8], f: Frame) -> Stepped
-    requires { Framed (length dst.old) (frame_of f) }
-    ensures { Decodes (frame_of f) src.now dst.old dst.new result }
-{
-    let headers = Headers::new();
-    let mut s = State::start(f);
-    let mut limit = f.width;
-    // Two turns at most, the first row and the rest: one call, so that the compiler makes one loop of both.
-    loop {
-        let r = orders_to(src, dst, &headers, f, s, limit);
-        if r.ending.is_err() {
-            return r;
+        let headers = Headers::new();
+        let mut s = State::start(f);
+        let mut limit = f.width;
+        // Two turns at most, the first row and the rest: one call, so that the compiler makes one loop of both.
+        loop {
+            let r = orders_to(src, dst, &headers, f, s, limit);
+            if r.ending.is_err() {
+                return r;
+            }
+            let t = r.state;
+            if src.len() <= t.pos {
+                return r;
+            }
+            s = t.end_first_row(f);
+            limit = f.total + 1;
         }
-        let t = r.state;
-        if src.len() <= t.pos {
-            return r;
-        }
-        s = t.end_first_row(f);
-        limit = f.total + 1;
     }
 }

@@ -7,6 +7,7 @@ ghost use Rattle.rle.specs.Heads.{own_place, mega_in, ReadsLength, ReadsHead};
 
 use crate::header::Headers;
 use crate::kind::Kind;
+use crate::length::Length;
 use crate::record::Place;
 use buf::{u8_from, u16_from};
 use picture::RleError;
@@ -32,7 +33,7 @@ pub(crate) struct OrderHead {
     pub(crate) header: usize,
     pub(crate) place: Place,
     pub(crate) kind: Kind,
-    pub(crate) run_length: usize,
+    pub(crate) run_length: Length,
     pub(crate) next: usize,
 }
 
@@ -45,14 +46,12 @@ pub(crate) fn extract_run_length_mega(
     requires { (pos ≤ length src.now) × (1 ≤ mega) × (mega ≤ 32) }
     ensures { ReadsLength src.now pos in_byte result (mega_length mega (drop pos src.now)) }
 {
-    match u8_from(src, pos) {
-        Err(error) => Err(NoLength { error, next: pos }),
-        Ok(byte) => Ok(RunLength {
-            pixels: byte + mega,
-            place: Place::InByte,
-            next: pos + 1,
-        }),
-    }
+    let byte = u8_from(src, pos).map_err(|error| NoLength { error, next: pos })?;
+    Ok(RunLength {
+        pixels: byte + mega,
+        place: Place::InByte,
+        next: pos + 1,
+    })
 }
 
 // A length of two bytes.
@@ -60,13 +59,12 @@ pub(crate) fn extract_run_length_mega_mega(src: &[u8], pos: usize) -> Result<Run
     requires { pos ≤ length src.now }
     ensures { ReadsLength src.now pos in_two_bytes result (mega_mega_length (drop pos src.now)) }
 {
-    match u16_from(src, pos) {
-        Err(error) => Err(NoLength { error, next: pos }),
-        Ok(0) => Err(NoLength {
+    match u16_from(src, pos).map_err(|error| NoLength { error, next: pos })? {
+        0 => Err(NoLength {
             error: RleError::UnexpectedZeroLength,
             next: pos + 2,
         }),
-        Ok(pixels) => Ok(RunLength {
+        pixels => Ok(RunLength {
             pixels,
             place: Place::InTwoBytes,
             next: pos + 2,
@@ -138,7 +136,9 @@ pub(crate) fn read_head(
         header,
         place: length.place,
         kind,
-        run_length: length.pixels,
+        run_length: Length {
+            pixels: length.pixels,
+        },
         next: length.next,
     }))
 }

@@ -5,7 +5,6 @@ ghost use Rattle.definition.specs.Codes.{kind_number, length_number};
 ghost use Rattle.rle.specs.Kinds.{number_of, numbers_in};
 
 use crate::kind::Kind;
-use base::widen;
 
 // The kind of each header byte: a row for each upper half. Below F0 a row has one kind, and the lower half is a run length.
 const KINDS: [[Kind; 16]; 16] = [
@@ -86,6 +85,6 @@ impl Headers {
         requires { header < 256 }
         ensures { result ≡ length_number header }
     {
-        widen(self.lengths[header])
+        usize::from(self.lengths[header])
     }
 }

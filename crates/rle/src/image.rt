@@ -1,30 +1,64 @@
 // Orders that paint images. Each plans the order, paints the pixels that the plan says, and ends as the plan says.
-ghost use Rattle.std.specs.Prelude.{◌≡◌, ◌⊎◌, List, ℕ, ◌≤◌, length, drop};
+ghost use Rattle.std.specs.Prelude.{◌≡◌, ◌⊎◌};
 ghost use Rattle.definition.specs.Orders as orders;
-ghost use Rattle.definition.specs.Decode as decode;
-ghost use Rattle.definition.specs.Plan as plan;
 ghost use Rattle.rle.specs.Kinds.{kind_in};
 ghost use Rattle.rle.specs.declared.kind.Kind.TheVariants.{FgBgImage, SetFgBgImage, SpecialFgBg1, SpecialFgBg2};
-ghost use Rattle.rle.specs.States.{frame_of, with_fg};
-ghost use Rattle.rle.specs.Orders.{Ready, Executes};
+ghost use Rattle.rle.specs.Carrying.{HasPicture, CarriesOut};
 
 use crate::kind::Kind;
-use crate::paint::{paint_image, paint_masks, paint_whole_masks};
+use crate::length::Length;
+use crate::order::Order;
 use crate::plan::foreground_size;
-use crate::state::{Frame, State, Stepped};
+use crate::state::Stepped;
 
-pub(crate) fn color_image(src: &[u8], dst: &mut [u8], f: Frame, s: State, n: usize) -> Stepped
-    requires ready { Ready (length dst.old) (frame_of f) s n }
-    requires pos_in_bounds { s.pos ≤ length src.now }
-    ensures { Executes (frame_of f) src.now dst.old dst.new s result (decode.order_of (frame_of f) orders.Kind.ColorImage n) }
-{
-    let d = f.depth.bytes;
-    let p = f.room(s.pixels).color_image(n, src.len() - s.pos);
-    if p.pixels == 0 {
-        return s.finished(p, false);
+impl<'a> Order<'a> {
+    pub(crate) fn color_image(self, dst: &mut [u8]) -> Stepped
+        requires { HasPicture self dst.old }
+        ensures { CarriesOut self.entry orders.Kind.ColorImage dst.old dst.new result }
+    {
+        let s = self.state;
+        let left = self.src.len() - s.pos;
+        let p = self.frame.room(s.pixels).color_image(self.run_length, left);
+        if p.pixels == 0 {
+            return s.finished(p, Kind::ColorImage);
+        }
+        s.span(self.frame, p.pixels)
+            .paint_image(self.src, s.pos, dst);
+        s.finished(p, Kind::ColorImage)
     }
-    paint_image(src, s.pos, dst, d, s.pixels, p.pixels);
-    s.finished(p, false)
+
+    pub(crate) fn special_fgbg(self, dst: &mut [u8], kind: Kind) -> Stepped
+        requires place { HasPicture self dst.old }
+        requires eight { self.run_length.pixels ≡ 8 }
+        requires special { (kind ≡ SpecialFgBg1) ⊎ (kind ≡ SpecialFgBg2) }
+        ensures { CarriesOut self.entry (kind_in kind) dst.old dst.new result }
+    {
+        let s = self.state;
+        let p = self.frame.room(s.pixels).run(Length { pixels: 8 });
+        let masks = [special_mask(kind)];
+        s.span(self.frame, p.pixels)
+            .paint_whole_masks(&masks, 0, dst, s.fg_ink());
+        s.finished(p, kind)
+    }
+
+    // An fg/bg image, with or without a foreground of its own.
+    pub(crate) fn fgbg_image(self, dst: &mut [u8], kind: Kind) -> Stepped
+        requires place { HasPicture self dst.old }
+        requires image { (kind ≡ FgBgImage) ⊎ (kind ≡ SetFgBgImage) }
+        ensures { CarriesOut self.entry (kind_in kind) dst.old dst.new result }
+    {
+        let s = self.state;
+        let left = self.src.len() - s.pos;
+        let p = self
+            .frame
+            .room(s.pixels)
+            .fgbg_image(kind, self.run_length, left);
+        let t = self.with_foreground(kind);
+        let masks = s.pos + foreground_size(self.frame.depth.bytes, kind);
+        s.span(self.frame, p.pixels)
+            .paint_masks(self.src, masks, dst, t.fg_ink());
+        t.finished(p, kind)
+    }
 }
 
 // The mask of a special fg/bg image.
@@ -36,68 +70,4 @@ pub(crate) fn special_mask(kind: Kind) -> u8
         Kind::SpecialFgBg1 => 0x03,
         _ => 0x05,
     }
-}
-
-pub(crate) fn special_fgbg(dst: &mut [u8], f: Frame, s: State, kind: Kind) -> Stepped
-    requires ready { Ready (length dst.old) (frame_of f) s 8 }
-    requires special { (kind ≡ SpecialFgBg1) ⊎ (kind ≡ SpecialFgBg2) }
-    ensures { (src : List ℕ) → s.pos ≤ length src → Executes (frame_of f) src dst.old dst.new s result (decode.order_of (frame_of f) (kind_in kind) 8) }
-{
-    let d = f.depth.bytes;
-    let p = f.room(s.pixels).run(8);
-    let masks = [special_mask(kind)];
-    paint_whole_masks(
-        &masks,
-        0,
-        dst,
-        d,
-        f.width,
-        s.pixels,
-        p.pixels / 8,
-        s.fg_ink(),
-        s.bg_ink(f),
-    );
-    s.finished(p, false)
-}
-
-// The state with the foreground that an order of this kind reads, if it does and its bytes are there.
-pub(crate) fn image_foreground(src: &[u8], d: usize, s: State, kind: Kind) -> State
-    requires { (1 ≤ d) × (d ≤ 3) × (s.pos ≤ length src.now) }
-    ensures { result ≡ with_fg s (plan.foreground_by d (kind_in kind) s.foreground (drop s.pos src.now)) }
-{
-    if kind.sets_foreground() {
-        return s.new_foreground(src, d);
-    }
-    s
-}
-
-// An fg/bg image, with or without a foreground of its own.
-pub(crate) fn fgbg_image(
-    src: &[u8],
-    dst: &mut [u8],
-    f: Frame,
-    s: State,
-    kind: Kind,
-    n: usize,
-) -> Stepped
-    requires ready { Ready (length dst.old) (frame_of f) s n }
-    requires pos_in_bounds { s.pos ≤ length src.now }
-    requires image { (kind ≡ FgBgImage) ⊎ (kind ≡ SetFgBgImage) }
-    ensures { Executes (frame_of f) src.now dst.old dst.new s result (decode.order_of (frame_of f) (kind_in kind) n) }
-{
-    let d = f.depth.bytes;
-    let p = f.room(s.pixels).fgbg_image(kind, n, src.len() - s.pos);
-    let t = image_foreground(src, d, s, kind);
-    paint_masks(
-        src,
-        s.pos + foreground_size(d, kind),
-        dst,
-        d,
-        f.width,
-        s.pixels,
-        p.pixels,
-        t.fg_ink(),
-        t.bg_ink(f),
-    );
-    t.finished(p, false)
 }

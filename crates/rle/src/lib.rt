@@ -10,10 +10,12 @@ ghost use Rattle.rle.specs.Report.{summary_in, Decompresses};
 ghost use Rattle.rle.specs.Walks.{FindsOrder};
 
 pub(crate) mod decode;
+pub(crate) mod frame;
 pub(crate) mod head;
 pub(crate) mod header;
 pub(crate) mod image;
 pub mod kind;
+pub(crate) mod length;
 pub(crate) mod order;
 pub(crate) mod paint;
 pub(crate) mod pixel;
@@ -22,35 +24,30 @@ pub(crate) mod plan;
 pub mod record;
 pub mod report;
 pub(crate) mod run;
+pub(crate) mod span;
 pub(crate) mod state;
 pub mod walk;
 
 use decode::{Fast, decompress_by};
+use frame::Frame;
 pub use kind::Kind;
 pub use record::{OrderRecord, Place};
 pub use report::Report;
-use state::Frame;
-use walk::walk_orders;
 pub use walk::{Found, Walk};
+use walk::{count_in, walk_orders};
 
 // Decodes the stream `src` of a picture into the first bytes of `dst`, of which the bytes after the painted pixels stay.
 pub fn decompress(src: &[u8], dst: &mut [u8], width: usize, height: usize, bpp: usize) -> Report
     ensures { Decompresses src.now bpp width height dst.old dst.new result }
 {
-    decompress_by::<Fast>(src, dst, width, height, bpp)
+    decompress_by::<Fast>(src, dst, width, height, bpp).unwrap_or_else(Report::from)
 }
 
 // What `decompress` reports of the stream in every target that has space, without one.
 pub fn count_orders(src: &[u8], width: usize, height: usize, bpp: usize) -> Report
     ensures { summary_in result ≡ summary_of (decode_of.result src.now bpp width height) }
 {
-    let f = match Frame::new(width, height, bpp) {
-        Ok(f) => f,
-        Err(e) => return Report::not_decoded(e),
-    };
-    // No picture completes more orders than it has pixels.
-    let r = walk_orders(src, f, Walk::start(), f.total);
-    Report::new(r.ending(), r.walk.pixels, r.orders, f.depth.format)
+    count_in(src, width, height, bpp).unwrap_or_else(Report::from)
 }
 
 // The order number n, from 0, of those that the stream completes from `from` on: its record, and the walk behind it. From the start of
@@ -65,9 +62,7 @@ pub fn nth_order(
 ) -> Option<Found>
     ensures { FindsOrder src.now bpp width height from n result }
 {
-    let Ok(f) = Frame::new(width, height, bpp) else {
-        return None;
-    };
+    let f = Frame::new(width, height, bpp).ok()?;
     if f.total < from.pixels {
         return None;
     }

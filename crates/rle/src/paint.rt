@@ -1,211 +1,63 @@
-// Painting pixels into a target: pixel k stands in its bytes from k * d on, and the pixel above it w pixels before.
+// Painting pixels into a target.
 //
-// A painter that an order calls for all its plans returns at once where there are no pixels. A plan that refuses its order asks for none,
-// so the compiler takes a refused order past the painting.
-ghost use Rattle.std.specs.Prelude.{◌≡◌, false, ℕ, ◌+◌, ◌-◌, ◌*◌, ◌%◌, ◌≤◌, ◌<◌, length, drop};
-ghost use Rattle.base.specs.Picks.{pick};
-ghost use Rattle.picture.specs.Pixels.{first_pixel, pixel_at, OfDepth};
+// Background and foreground runs and fg/bg images are painted also where they are of no pixels, since a plan that refuses its order asks
+// for none. The other orders end before they paint then.
+//
+// Painters that take a span are put where they are called: as calls, which hand the span over in memory, a foreground run of one pixel
+// took 103 instructions in place of 54.
+ghost use Rattle.std.specs.Prelude.{◌≡◌, ◌+◌, ◌-◌, ◌*◌, ◌/◌, ◌%◌, ◌≤◌, ◌<◌, IfSome, true, length, drop};
+ghost use Rattle.picture.specs.Pixels.{pixel_at, OfDepth};
 ghost use Rattle.definition.specs.Decode as decode;
 ghost use Rattle.definition.specs.Plan.{image_ink};
-ghost use Rattle.rle.specs.Painting.{HasPlace, Paintable, MaskInks, PaintedOne, Painted, ink_of, is_solid, solid_ink};
+ghost use Rattle.rle.specs.Painting.{HasPlace, HasAbove, Paintable, HasColor, PaintedOne, Paints, ink_of, zero_ink, insert_inks, back_and_color};
+ghost use Rattle.byte_runs.specs.Runs.{run, xored, turn, row_there, row_bytes, masked_by};
 
 use crate::pixel::{read_pixel, write_pixel, xor};
+use crate::span::Span;
 use copy::{copy_back, copy_in};
 use fill::{fill, fill_pairs};
 use mask::{mask_part, masks};
 use xor::xor_back;
 
-#[derive(Clone, Copy)]
-pub(crate) enum Mode {
-    Solid,
-    Above,
-    AboveXor,
-}
-
 // What a pixel is painted with: a color, the pixel above, or the pixel above exclusive-or a color.
 #[derive(Clone, Copy)]
-pub(crate) struct Ink {
-    pub(crate) mode: Mode,
-    pub(crate) pixel: [u8; 3],
+pub(crate) enum Ink {
+    Solid([u8; 3]),
+    Above,
+    AboveXor([u8; 3]),
 }
 
-pub(crate) fn solid(p: [u8; 3]) -> Ink
-    ensures { result ≡ solid_ink p }
+// n pixels of d bytes from dst[at] on, those `row` bytes back exclusive-or a color. It stays a call: inlined, 1000 pixels of three bytes
+// took 1968 instructions in place of 1019. It takes numbers, as a call that hands the span over took 4 to 10 more.
+#[inline(never)]
+pub(crate) fn xor_rows(dst: &mut [u8], d: usize, at: usize, n: usize, row: usize, p: [u8; 3])
+    requires { (1 ≤ d) × (d ≤ 3) × (row ≤ at) × (at + n * d ≤ length dst.old) }
+    ensures { dst.new ≡ run (xored at row (turn p d)) at (n * d) dst.old }
 {
-    Ink {
-        mode: Mode::Solid,
-        pixel: p,
-    }
-}
-
-pub(crate) fn paint_pixel(dst: &mut [u8], d: usize, w: usize, k: usize, ink: Ink)
-    requires { Paintable d w k 1 dst.old ink }
-    ensures { PaintedOne d w (ink_of ink) k dst.old dst.new }
-{
-    let mode = ink.mode;
-    let p = ink.pixel;
-    match mode {
-        Mode::Solid => write_pixel(dst, d, k * d, p),
-        Mode::Above => {
-            let q = read_pixel(dst, d, (k - w) * d);
-            write_pixel(dst, d, k * d, q)
-        }
-        Mode::AboveXor => {
-            let q = read_pixel(dst, d, (k - w) * d);
-            write_pixel(dst, d, k * d, xor(q, p))
-        }
-    }
-}
-
-// n pixels from number k on in a color. The part that is lent is as long as they are, so that the compiler finds the tests of the writer
-// to hold; and so below.
-pub(crate) fn paint_color(dst: &mut [u8], d: usize, w: usize, k: usize, n: usize, p: [u8; 3])
-    requires has_place { HasPlace d k n dst.old }
-    requires of_depth { OfDepth d p }
-    ensures { Painted d w (λ _. decode.Ink.solid p) k n dst.old dst.new }
-{
-    let at = k * d;
-    let end = at + n * d;
-    fill(&mut dst[at..end], d, 0, n, p);
-}
-
-// n pixels from number k on, those above.
-pub(crate) fn paint_above(dst: &mut [u8], d: usize, w: usize, k: usize, n: usize)
-    requires has_place { HasPlace d k n dst.old }
-    requires le_w { (1 ≤ w) × (w ≤ k) }
-    ensures { Painted d w (λ _. decode.Ink.above) k n dst.old dst.new }
-{
-    let row = w * d;
-    let len = n * d;
-    let at = k * d;
-    let from = at - row;
-    let end = at + len;
-    copy_back(&mut dst[from..end], row, len, row);
-}
-
-// n pixels from number k on, those above exclusive-or a color.
-pub(crate) fn paint_xor(dst: &mut [u8], d: usize, w: usize, k: usize, n: usize, p: [u8; 3])
-    requires has_place { HasPlace d k n dst.old }
-    requires le_w { (1 ≤ w) × (w ≤ k) × OfDepth d p }
-    ensures { Painted d w (λ _. decode.Ink.above_xor p) k n dst.old dst.new }
-{
-    let row = w * d;
-    let at = k * d;
     let from = at - row;
     let end = at + n * d;
     xor_back(&mut dst[from..end], d, row, n, row, p);
 }
 
-// n pixels from number k on, all with one ink.
-pub(crate) fn paint_run(dst: &mut [u8], d: usize, w: usize, k: usize, n: usize, ink: Ink)
-    requires { Paintable d w k n dst.old ink }
-    ensures { Painted d w (λ _. ink_of ink) k n dst.old dst.new }
-{
-    if n == 1 {
-        return paint_pixel(dst, d, w, k, ink);
-    }
-    let mode = ink.mode;
-    let p = ink.pixel;
-    match mode {
-        Mode::Solid => paint_color(dst, d, w, k, n, p),
-        Mode::Above => paint_above(dst, d, w, k, n),
-        Mode::AboveXor => paint_xor(dst, d, w, k, n, p),
-    }
-}
-
-// A foreground run's n pixels.
-pub(crate) fn paint_fg_run(dst: &mut [u8], d: usize, w: usize, k: usize, n: usize, ink: Ink)
-    requires { Paintable d w k n dst.old ink }
-    ensures { Painted d w (λ _. ink_of ink) k n dst.old dst.new }
-{
-    if n == 0 {
-        return;
-    }
-    paint_run(dst, d, w, k, n, ink)
-}
-
-// n pixels from number k on, with a background's ink. After the first row it is the pixel above: by a call of its own that takes fewer
-// instructions than the way through all the modes.
-pub(crate) fn paint_background(dst: &mut [u8], d: usize, w: usize, k: usize, n: usize, ink: Ink)
-    requires { Paintable d w k n dst.old ink }
-    ensures { Painted d w (λ _. ink_of ink) k n dst.old dst.new }
-{
-    let mode = ink.mode;
-    match mode {
-        Mode::Solid => paint_run(dst, d, w, k, n, ink),
-        Mode::Above => paint_above(dst, d, w, k, n),
-        Mode::AboveXor => paint_run(dst, d, w, k, n, ink),
-    }
-}
-
-// A background run's n pixels, the first with the foreground's ink where an insert is pending.
-pub(crate) fn paint_bg_run(
-    dst: &mut [u8],
-    d: usize,
-    w: usize,
-    k: usize,
-    n: usize,
-    insert: bool,
-    fg: Ink,
-    bg: Ink,
-)
-    requires paintable { Paintable d w k n dst.old fg }
-    requires paintable_2 { Paintable d w k n dst.old bg }
-    ensures { Painted d w (decode.insert_ink insert (ink_of fg) (ink_of bg)) k n dst.old dst.new }
-{
-    if n == 0 {
-        return;
-    }
-    if insert {
-        paint_pixel(dst, d, w, k, fg);
-        if n == 1 {
-            return;
-        }
-        return paint_background(dst, d, w, k + 1, n - 1, bg);
-    }
-    paint_background(dst, d, w, k, n, bg)
-}
-
-pub(crate) fn is_solid(mode: Mode) -> bool
-    ensures { result ≡ is_solid mode }
-{
-    match mode {
-        Mode::Solid => true,
-        Mode::Above => false,
-        Mode::AboveXor => false,
-    }
-}
-
-// How many bytes back masks look: nowhere in the first row.
-pub(crate) fn bytes_back(first: bool, d: usize, w: usize) -> Option<usize>
-    requires { first ≡ false → w * d ≤ 18446744073709551615 }
-    ensures { result ≡ pick first None (Some (w * d)) }
-{
-    if first { None } else { Some(w * d) }
-}
-
-// 8 * m pixels from number k on, by the m masks from src[from] on.
-pub(crate) fn paint_whole_masks(
+// 8 * m pixels of d bytes from dst[at] on, by the masks from src[from] on, in the first row where `back` is none. It stays a call, since it
+// has two callers, and takes numbers: as a call that hands span and ink over, 16 pixels of one byte took 228 instructions in place of 205.
+#[inline(never)]
+pub(crate) fn mask_rows(
     src: &[u8],
     from: usize,
     dst: &mut [u8],
     d: usize,
-    w: usize,
-    k: usize,
+    at: usize,
     m: usize,
-    fg: Ink,
-    bg: Ink,
+    back: Option<usize>,
+    p: [u8; 3],
 )
-    requires paintable { Paintable d w k (m * 8) dst.old fg }
-    requires m_in_bounds { (from + m ≤ length src.now) × MaskInks fg bg }
-    ensures { Painted d w (image_ink (ink_of fg) (ink_of bg) (drop from src.now)) k (m * 8) dst.old dst.new }
+    requires depth { (1 ≤ d) × (d ≤ 3) }
+    requires fits { (from + m ≤ length src.now) × (at + m * 8 * d ≤ length dst.old) }
+    requires back { row_there back at ≡ true }
+    ensures { dst.new ≡ run (row_bytes back at (masked_by src.now from d p)) at (m * 8 * d) dst.old }
 {
-    let p = fg.pixel;
-    let mode = fg.mode;
-    let first = is_solid(mode);
-    let back = bytes_back(first, d, w);
     let row = back.unwrap_or(0);
-    let at = k * d;
     let start = at - row;
     let end = at + m * 8 * d;
     let last = from + m;
@@ -221,90 +73,226 @@ pub(crate) fn paint_whole_masks(
     );
 }
 
-// n pixels from number k on, eight at most, by the mask src[from]. Here the whole target is lent: for so few pixels a part would take
-// longer than its tests.
-pub(crate) fn paint_mask_part(
-    src: &[u8],
-    from: usize,
-    dst: &mut [u8],
-    d: usize,
-    w: usize,
-    k: usize,
-    n: usize,
-    fg: Ink,
-    bg: Ink,
-)
-    requires paintable { Paintable d w k n dst.old fg }
-    requires n_bound { (n ≤ 8) × (from < length src.now) × MaskInks fg bg }
-    ensures { Painted d w (image_ink (ink_of fg) (ink_of bg) (drop from src.now)) k n dst.old dst.new }
-{
-    let p = fg.pixel;
-    let mode = fg.mode;
-    let first = is_solid(mode);
-    let back = bytes_back(first, d, w);
-    let last = from + 1;
-    mask_part(&src[from..last], 0, dst, d, k * d, back, n, p);
-}
-
-// n pixels from number k on, eight to a mask, by the masks from src[from] on.
-pub(crate) fn paint_masks(
-    src: &[u8],
-    from: usize,
-    dst: &mut [u8],
-    d: usize,
-    w: usize,
-    k: usize,
-    n: usize,
-    fg: Ink,
-    bg: Ink,
-)
-    requires paintable { Paintable d w k n dst.old fg }
-    requires n_bound { (n ≤ (length src.now - from) * 8) × MaskInks fg bg }
-    ensures { Painted d w (image_ink (ink_of fg) (ink_of bg) (drop from src.now)) k n dst.old dst.new }
-{
-    let m = n / 8;
-    if 0 < m {
-        paint_whole_masks(src, from, dst, d, w, k, m, fg, bg);
+impl Span {
+    // Its pixel number i.
+    #[inline(always)]
+    pub(crate) fn paint_pixel(self, dst: &mut [u8], i: usize, ink: Ink)
+        requires place { HasPlace self dst.old }
+        requires paintable { Paintable self ink }
+        requires inside { i < self.pixels }
+        ensures { PaintedOne self.bytes self.width (ink_of ink) (self.start + i) dst.old dst.new }
+    {
+        let d = self.bytes;
+        let k = self.start + i;
+        match ink {
+            Ink::Solid(p) => write_pixel(dst, d, k * d, p),
+            Ink::Above => {
+                let q = read_pixel(dst, d, (k - self.width) * d);
+                write_pixel(dst, d, k * d, q)
+            }
+            Ink::AboveXor(p) => {
+                let q = read_pixel(dst, d, (k - self.width) * d);
+                write_pixel(dst, d, k * d, xor(q, p))
+            }
+        }
     }
-    let rest = n % 8;
-    if rest == 0 {
-        return;
+
+    // In a color. The part that is lent is as long as the pixels, so that the compiler finds the tests of `fill` to hold; and so in the
+    // others.
+    #[inline(always)]
+    pub(crate) fn paint_color(self, dst: &mut [u8], p: [u8; 3])
+        requires place { HasPlace self dst.old }
+        requires of_depth { OfDepth self.bytes p }
+        ensures { Paints self (λ _. decode.Ink.solid p) dst.old dst.new }
+    {
+        let d = self.bytes;
+        let at = self.start * d;
+        let end = at + self.pixels * d;
+        fill(&mut dst[at..end], d, 0, self.pixels, p);
     }
-    paint_mask_part(src, from + m, dst, d, w, k + m * 8, rest, fg, bg);
-}
 
-// n pixels from number k on, an even number, a and b by turns. Like an image's they look at no row above, so any width will do.
-pub(crate) fn paint_dithered(dst: &mut [u8], d: usize, k: usize, n: usize, a: [u8; 3], b: [u8; 3])
-    requires has_place { HasPlace d k n dst.old }
-    requires n_value { (n % 2 ≡ 0) × OfDepth d a × OfDepth d b }
-    ensures { (w : ℕ) → Painted d w (decode.dither_ink a b) k n dst.old dst.new }
-{
-    let at = k * d;
-    let end = at + n * d;
-    fill_pairs(&mut dst[at..end], d, 0, n / 2, a, b);
-}
-
-// One pixel or none, at number k.
-pub(crate) fn paint_single(dst: &mut [u8], d: usize, k: usize, n: usize, p: [u8; 3])
-    requires has_place { HasPlace d k n dst.old }
-    requires n_bound { (n ≤ 1) × OfDepth d p }
-    ensures { (w : ℕ) → Painted d w (λ _. decode.Ink.solid p) k n dst.old dst.new }
-{
-    if n == 0 {
-        return;
+    // With the pixels above.
+    #[inline(always)]
+    pub(crate) fn paint_above(self, dst: &mut [u8])
+        requires place { HasPlace self dst.old }
+        requires above { HasAbove self }
+        ensures { Paints self (λ _. decode.Ink.above) dst.old dst.new }
+    {
+        let d = self.bytes;
+        let row = self.width * d;
+        let len = self.pixels * d;
+        let at = self.start * d;
+        let from = at - row;
+        let end = at + len;
+        copy_back(&mut dst[from..end], row, len, row);
     }
-    write_pixel(dst, d, k * d, p)
-}
 
-// n pixels from number k on, those of the stream from src[pos] on.
-pub(crate) fn paint_image(src: &[u8], pos: usize, dst: &mut [u8], d: usize, k: usize, n: usize)
-    requires has_place { HasPlace d k n dst.old }
-    requires d_in_bounds { pos + n * d ≤ length src.now }
-    ensures { (w : ℕ) → Painted d w (λ j. decode.Ink.solid (pixel_at d (drop pos src.now) j)) k n dst.old dst.new }
-{
-    let len = n * d;
-    let last = pos + len;
-    let at = k * d;
-    let end = at + len;
-    copy_in(&src[pos..last], 0, &mut dst[at..end], 0, len);
+    // With the pixels above exclusive-or a color.
+    #[inline(always)]
+    pub(crate) fn paint_xor(self, dst: &mut [u8], p: [u8; 3])
+        requires place { HasPlace self dst.old }
+        requires above { HasAbove self }
+        requires of_depth { OfDepth self.bytes p }
+        ensures { Paints self (λ _. decode.Ink.above_xor p) dst.old dst.new }
+    {
+        let d = self.bytes;
+        xor_rows(dst, d, self.start * d, self.pixels, self.width * d, p);
+    }
+
+    // All with one ink, whatever their number.
+    #[inline(always)]
+    pub(crate) fn paint_many(self, dst: &mut [u8], ink: Ink)
+        requires place { HasPlace self dst.old }
+        requires paintable { Paintable self ink }
+        ensures { Paints self (λ _. ink_of ink) dst.old dst.new }
+    {
+        match ink {
+            Ink::Solid(p) => self.paint_color(dst, p),
+            Ink::Above => self.paint_above(dst),
+            Ink::AboveXor(p) => self.paint_xor(dst, p),
+        }
+    }
+
+    // All with one ink: for a single pixel in fewer instructions.
+    #[inline(always)]
+    pub(crate) fn paint_run(self, dst: &mut [u8], ink: Ink)
+        requires place { HasPlace self dst.old }
+        requires paintable { Paintable self ink }
+        ensures { Paints self (λ _. ink_of ink) dst.old dst.new }
+    {
+        if self.pixels == 1 {
+            return self.paint_pixel(dst, 0, ink);
+        }
+        self.paint_many(dst, ink)
+    }
+
+    // A foreground run.
+    #[inline(always)]
+    pub(crate) fn paint_fg_run(self, dst: &mut [u8], ink: Ink)
+        requires place { HasPlace self dst.old }
+        requires paintable { Paintable self ink }
+        ensures { Paints self (λ _. ink_of ink) dst.old dst.new }
+    {
+        if self.pixels == 0 {
+            return;
+        }
+        self.paint_run(dst, ink)
+    }
+
+    // A background run, the first pixel with the inserted ink, if there is one. Its other pixels take the way for many: a test for a single
+    // one takes more instructions than it saves.
+    #[inline(always)]
+    pub(crate) fn paint_bg_run(self, dst: &mut [u8], insert: Option<Ink>, bg: Ink)
+        requires place { HasPlace self dst.old }
+        requires insert { IfSome insert (λ ink. Paintable self ink) }
+        requires bg { Paintable self bg }
+        ensures { Paints self (insert_inks insert bg) dst.old dst.new }
+    {
+        if self.pixels == 0 {
+            return;
+        }
+        let Some(fg) = insert else {
+            return self.paint_many(dst, bg);
+        };
+        self.paint_pixel(dst, 0, fg);
+        if self.pixels == 1 {
+            return;
+        }
+        self.part(1, self.pixels - 1).paint_many(dst, bg)
+    }
+
+    // How many bytes back masks look, nowhere in the first row, and the color of their bits that are 1, by the ink of those.
+    #[inline(always)]
+    pub(crate) fn back_and_color(self, ink: Ink) -> (Option<usize>, [u8; 3])
+        requires paintable { Paintable self ink }
+        requires in_range { self.start * self.bytes ≤ 18446744073709551615 }
+        ensures { result ≡ back_and_color self ink }
+    {
+        match ink {
+            Ink::Solid(p) => (None, p),
+            Ink::Above => (Some(self.width * self.bytes), [0; 3]),
+            Ink::AboveXor(p) => (Some(self.width * self.bytes), p),
+        }
+    }
+
+    // By whole masks, those from src[from] on: where a bit is 1 with the ink, where it is 0 with what the ink is without its color.
+    #[inline(always)]
+    pub(crate) fn paint_whole_masks(self, src: &[u8], from: usize, dst: &mut [u8], ink: Ink)
+        requires place { HasPlace self dst.old }
+        requires paintable { Paintable self ink × HasColor ink }
+        requires masks { (self.pixels % 8 ≡ 0) × (from + self.pixels / 8 ≤ length src.now) }
+        ensures { Paints self (image_ink (ink_of ink) (zero_ink ink) (drop from src.now)) dst.old dst.new }
+    {
+        let d = self.bytes;
+        let (back, p) = self.back_and_color(ink);
+        mask_rows(src, from, dst, d, self.start * d, self.pixels / 8, back, p);
+    }
+
+    // By one mask, src[from], of which it has eight pixels at most. Here the whole target is lent: for so few pixels a part would take
+    // longer than its tests.
+    pub(crate) fn paint_mask_part(self, src: &[u8], from: usize, dst: &mut [u8], ink: Ink)
+        requires place { HasPlace self dst.old }
+        requires paintable { Paintable self ink × HasColor ink }
+        requires mask { (self.pixels ≤ 8) × (from < length src.now) }
+        ensures { Paints self (image_ink (ink_of ink) (zero_ink ink) (drop from src.now)) dst.old dst.new }
+    {
+        let d = self.bytes;
+        let (back, p) = self.back_and_color(ink);
+        let last = from + 1;
+        mask_part(
+            &src[from..last],
+            0,
+            dst,
+            d,
+            self.start * d,
+            back,
+            self.pixels,
+            p,
+        );
+    }
+
+    // Eight pixels to a mask, by the masks from src[from] on.
+    pub(crate) fn paint_masks(self, src: &[u8], from: usize, dst: &mut [u8], ink: Ink)
+        requires place { HasPlace self dst.old }
+        requires paintable { Paintable self ink × HasColor ink }
+        requires masks { self.pixels ≤ (length src.now - from) * 8 }
+        ensures { Paints self (image_ink (ink_of ink) (zero_ink ink) (drop from src.now)) dst.old dst.new }
+    {
+        let m = self.pixels / 8;
+        if 0 < m {
+            self.part(0, m * 8).paint_whole_masks(src, from, dst, ink);
+        }
+        let rest = self.pixels % 8;
+        if rest == 0 {
+            return;
+        }
+        self.part(m * 8, rest)
+            .paint_mask_part(src, from + m, dst, ink);
+    }
+
+    // An even number of pixels, a and b by turns.
+    pub(crate) fn paint_dithered(self, dst: &mut [u8], a: [u8; 3], b: [u8; 3])
+        requires place { HasPlace self dst.old }
+        requires even { self.pixels % 2 ≡ 0 }
+        requires of_depth { OfDepth self.bytes a × OfDepth self.bytes b }
+        ensures { Paints self (decode.dither_ink a b) dst.old dst.new }
+    {
+        let d = self.bytes;
+        let at = self.start * d;
+        let end = at + self.pixels * d;
+        fill_pairs(&mut dst[at..end], d, 0, self.pixels / 2, a, b);
+    }
+
+    // With the pixels of the stream from src[pos] on.
+    pub(crate) fn paint_image(self, src: &[u8], pos: usize, dst: &mut [u8])
+        requires place { HasPlace self dst.old }
+        requires operands { pos + self.pixels * self.bytes ≤ length src.now }
+        ensures { Paints self (λ j. decode.Ink.solid (pixel_at self.bytes (drop pos src.now) j)) dst.old dst.new }
+    {
+        let len = self.pixels * self.bytes;
+        let last = pos + len;
+        let at = self.start * self.bytes;
+        let end = at + len;
+        copy_in(&src[pos..last], 0, &mut dst[at..end], 0, len);
+    }
 }

@@ -2,7 +2,7 @@
 // the crate two_decoders has that as the contract of two calls.
 //
 // It shares no function that takes a state with the other decoder: its loop and its orders write the state's fields themselves. What
-// both call takes numbers, bytes, a kind, a frame, a room or an ink: heads, plans, single pixels, the report.
+// both call takes numbers, bytes, a kind, a frame, a room, a span or an ink: heads, plans, single pixels, the report.
 ghost use Rattle.rle.specs.Report.{Decompresses};
 
 pub(crate) mod beside;
@@ -18,5 +18,5 @@ use crate::report::Report;
 pub fn decompress(src: &[u8], dst: &mut [u8], width: usize, height: usize, bpp: usize) -> Report
     ensures { Decompresses src.now bpp width height dst.old dst.new result }
 {
-    decompress_by::<Plain>(src, dst, width, height, bpp)
+    decompress_by::<Plain>(src, dst, width, height, bpp).unwrap_or_else(Report::from)
 }

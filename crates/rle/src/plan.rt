@@ -8,9 +8,10 @@ ghost use Rattle.picture.specs.Sizes.{refusal};
 ghost use Rattle.definition.specs.Plan as plan;
 ghost use Rattle.rle.specs.Kinds.{kind_in, sets_foreground};
 ghost use Rattle.rle.specs.Planning.{counts_in};
-ghost use Rattle.rle.specs.declared.kind.Kind.TheVariants.{FgBgImage, SetFgBgImage, White, Black, NoOrder};
+ghost use Rattle.rle.specs.declared.kind.Kind.TheVariants.{FgRun, FgBgImage, SetFgRun, SetFgBgImage, White, Black, NoOrder};
 
 use crate::kind::Kind;
+use crate::length::Length;
 use picture::RleError;
 
 // Bytes to read behind the run length, pixels to paint, and how the order ends then.
@@ -101,43 +102,48 @@ impl Room {
     }
 
     // A background or foreground run, a special fg/bg image, or a white or black pixel: no operands.
-    pub(crate) fn run(self, n: usize) -> Plan
-        requires { n ≤ 65536 }
-        ensures { counts_in result ≡ plan.run_counts self.bytes n self.pixels }
+    pub(crate) fn run(self, n: Length) -> Plan
+        ensures { counts_in result ≡ plan.run_counts self.bytes n.pixels self.pixels }
     {
-        self.pixels_behind(n, 0)
+        self.pixels_behind(n.pixels, 0)
+    }
+
+    // A foreground run, with or without a foreground of its own.
+    #[inline(always)]
+    pub(crate) fn fg_run(self, kind: Kind, n: Length, left: usize) -> Plan
+        requires { (kind ≡ FgRun) ⊎ (kind ≡ SetFgRun) }
+        ensures { counts_in result ≡ plan.counts_of self.bytes (kind_in kind) n.pixels left self.pixels }
+    {
+        self.with_operands(n.pixels, left, foreground_size(self.bytes, kind))
     }
 
     // A color or set-foreground run: one pixel is its operand.
-    pub(crate) fn pixel_run(self, n: usize, left: usize) -> Plan
-        requires { n ≤ 65536 }
-        ensures { counts_in result ≡ plan.with_operands self.bytes left (plan.run_counts self.bytes n self.pixels) }
+    pub(crate) fn pixel_run(self, n: Length, left: usize) -> Plan
+        ensures { counts_in result ≡ plan.with_operands self.bytes left (plan.run_counts self.bytes n.pixels self.pixels) }
     {
-        self.with_operands(n, left, self.bytes)
+        self.with_operands(n.pixels, left, self.bytes)
     }
 
-    pub(crate) fn color_image(self, n: usize, left: usize) -> Plan
-        requires { n ≤ 65536 }
-        ensures { counts_in result ≡ plan.with_operands (n * self.bytes) left (plan.run_counts self.bytes n self.pixels) }
+    pub(crate) fn color_image(self, n: Length, left: usize) -> Plan
+        ensures { counts_in result ≡ plan.with_operands (n.pixels * self.bytes) left (plan.run_counts self.bytes n.pixels self.pixels) }
     {
-        self.with_operands(n, left, n * self.bytes)
+        self.with_operands(n.pixels, left, n.pixels * self.bytes)
     }
 
     // n pairs of the two pixels that it reads.
-    pub(crate) fn dithered_run(self, n: usize, left: usize) -> Plan
-        requires { n ≤ 65536 }
-        ensures { counts_in result ≡ plan.with_operands (2 * self.bytes) left (plan.run_counts self.bytes (n * 2) self.pixels) }
+    pub(crate) fn dithered_run(self, n: Length, left: usize) -> Plan
+        ensures { counts_in result ≡ plan.with_operands (2 * self.bytes) left (plan.run_counts self.bytes (n.pixels * 2) self.pixels) }
     {
-        self.with_operands(n * 2, left, 2 * self.bytes)
+        self.with_operands(n.pixels * 2, left, 2 * self.bytes)
     }
 
     // The first mask of an fg/bg image that the picture has no room for: pixels / 8 masks have theirs.
-    pub(crate) fn no_room(self, n: usize, read: usize) -> Plan
-        requires { (self.pixels < n) × (n ≤ 65536) × (read ≤ 3) }
-        ensures { counts_in result ≡ plan.behind read (plan.no_room self.bytes n self.pixels) }
+    pub(crate) fn no_room(self, n: Length, read: usize) -> Plan
+        requires { (self.pixels < n.pixels) × (read ≤ 3) }
+        ensures { counts_in result ≡ plan.behind read (plan.no_room self.bytes n.pixels self.pixels) }
     {
         let whole = self.pixels / 8;
-        let rest = (n - whole * 8).min(8);
+        let rest = (n.pixels - whole * 8).min(8);
         let last = Room {
             bytes: self.bytes,
             pixels: self.pixels % 8,
@@ -146,34 +152,33 @@ impl Room {
     }
 
     // An fg/bg image that does not go through: a mask is missing, or room for its pixels.
-    pub(crate) fn cut_image(self, n: usize, left: usize, read: usize) -> Plan
-        requires n_bound { (n ≤ 65536) × (read ≤ 3) }
-        requires left_bound { n ≤ self.pixels → left < plan.masks_for n }
-        ensures { counts_in result ≡ plan.behind read (plan.image_counts self.bytes n left self.pixels) }
+    pub(crate) fn cut_image(self, n: Length, left: usize, read: usize) -> Plan
+        requires read_bound { read ≤ 3 }
+        requires left_bound { n.pixels ≤ self.pixels → left < plan.masks_for n.pixels }
+        ensures { counts_in result ≡ plan.behind read (plan.image_counts self.bytes n.pixels left self.pixels) }
     {
-        if n <= self.pixels || left <= self.pixels / 8 {
+        if n.pixels <= self.pixels || left <= self.pixels / 8 {
             return no_mask(left, read);
         }
         self.no_room(n, read)
     }
 
     // n pixels by masks, behind so many bytes of operands; `left` counts the bytes behind those.
-    pub(crate) fn image_behind(self, n: usize, left: usize, read: usize) -> Plan
-        requires { (n ≤ 65536) × (read ≤ 3) }
-        ensures { counts_in result ≡ plan.behind read (plan.image_counts self.bytes n left self.pixels) }
+    pub(crate) fn image_behind(self, n: Length, left: usize, read: usize) -> Plan
+        requires { read ≤ 3 }
+        ensures { counts_in result ≡ plan.behind read (plan.image_counts self.bytes n.pixels left self.pixels) }
     {
-        let masks = (n + 7) / 8;
-        if n <= self.pixels && masks <= left {
-            return Plan::complete(read + masks, n);
+        let masks = (n.pixels + 7) / 8;
+        if n.pixels <= self.pixels && masks <= left {
+            return Plan::complete(read + masks, n.pixels);
         }
         self.cut_image(n, left, read)
     }
 
     // An fg/bg image, with or without a foreground of its own.
-    pub(crate) fn fgbg_image(self, kind: Kind, n: usize, left: usize) -> Plan
-        requires few { n ≤ 65536 }
-        requires image { (kind ≡ FgBgImage) ⊎ (kind ≡ SetFgBgImage) }
-        ensures { counts_in result ≡ plan.counts_of self.bytes (kind_in kind) n left self.pixels }
+    pub(crate) fn fgbg_image(self, kind: Kind, n: Length, left: usize) -> Plan
+        requires { (kind ≡ FgBgImage) ⊎ (kind ≡ SetFgBgImage) }
+        ensures { counts_in result ≡ plan.counts_of self.bytes (kind_in kind) n.pixels left self.pixels }
     {
         let size = foreground_size(self.bytes, kind);
         if left < size {
@@ -189,14 +194,13 @@ impl Room {
     {
         match kind {
             Kind::NoOrder => Plan::no_order(),
-            _ => self.run(1),
+            _ => self.run(Length { pixels: 1 }),
         }
     }
 
     // An order of this kind and run length.
-    pub(crate) fn order(self, kind: Kind, n: usize, left: usize) -> Plan
-        requires { n ≤ 65536 }
-        ensures { counts_in result ≡ plan.counts_of self.bytes (kind_in kind) n left self.pixels }
+    pub(crate) fn order(self, kind: Kind, n: Length, left: usize) -> Plan
+        ensures { counts_in result ≡ plan.counts_of self.bytes (kind_in kind) n.pixels left self.pixels }
     {
         match kind {
             Kind::BgRun

@@ -1,12 +1,10 @@
 // What a completed order was.
-ghost use Rattle.std.specs.Prelude.{◌≡◌, false};
-ghost use Rattle.base.specs.Picks.{pick};
-ghost use Rattle.definition.specs.Plan.{leaves_insert};
-ghost use Rattle.rle.specs.Kinds.{kind_in};
+ghost use Rattle.std.specs.Prelude.{◌≡◌};
 ghost use Rattle.rle.specs.Walking.{record_at};
 
 use crate::head::OrderHead;
 use crate::kind::Kind;
+use crate::walk::Walk;
 
 // Where an order's run length stands: nowhere (its kind has just one), in the header, in the byte after it, or in two.
 #[derive(Clone, Copy, Debug, PartialEq, Eq)]
@@ -30,25 +28,20 @@ pub struct OrderRecord {
     pub inserted: bool,
 }
 
-// Whether an order of this kind paints a pending insert: a background run does.
-pub(crate) fn paints_insert(kind: Kind, insert: bool) -> bool
-    ensures { result ≡ pick (leaves_insert (kind_in kind)) insert false }
-{
-    kind.leaves_insert() && insert
-}
-
-// The record of an order with this head, which paints so many pixels, begins in the first row or not, and with an insert pending or
-// not.
-pub(crate) fn record_at(o: OrderHead, pixels: usize, first_row: bool, insert: bool) -> OrderRecord
-    ensures { result ≡ record_at o pixels first_row insert }
-{
-    OrderRecord {
-        header: o.header,
-        place: o.place,
-        kind: o.kind,
-        run_length: o.run_length,
-        pixels,
-        first_row,
-        inserted: paints_insert(o.kind, insert),
+impl OrderRecord {
+    // The record of an order with this head, which begins where the walk stands, and paints so many pixels. A background run paints a
+    // pending insert.
+    pub(crate) fn new(o: OrderHead, begun: Walk, pixels: usize) -> Self
+        ensures { result ≡ record_at o begun pixels }
+    {
+        OrderRecord {
+            header: o.header,
+            place: o.place,
+            kind: o.kind,
+            run_length: o.run_length.pixels,
+            pixels,
+            first_row: begun.first_row,
+            inserted: o.kind.leaves_insert() && begun.insert,
+        }
     }
 }

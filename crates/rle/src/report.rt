@@ -30,11 +30,13 @@ impl Report {
             orders,
         }
     }
+}
 
-    // The report of a picture that was refused before its stream.
-    pub(crate) fn not_decoded(e: RleError) -> Self
-        ensures { result ≡ not_decoded e }
-    {
+// The report of a picture that was refused before its stream.
+impl From<RleError> for Report {
+    ghost from_gives = { λ e r. r ≡ not_decoded e };
+
+    fn from(e: RleError) -> Report {
         Report {
             outcome: Err(e),
             pixels: 0,

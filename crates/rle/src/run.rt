@@ -1,90 +1,102 @@
 // Orders that paint runs, and single pixels. Each plans the order, paints the pixels that the plan says, and ends as the plan says.
 //
-// Where a plan says none, the order is refused. Orders of colors that the stream has end there, before they paint, so that the compiler
-// carries no refusal past the painting; the others leave it to their painter, which took fewer instructions.
-ghost use Rattle.std.specs.Prelude.{◌≡◌, ◌⊎◌, List, ℕ, ◌≤◌, length};
+// Where a plan says none, the order is refused. Orders of colors that the stream or the depth has end there, before they paint, so that
+// the compiler carries no refusal past the painting; the others leave it to their painter, which took fewer instructions.
+ghost use Rattle.std.specs.Prelude.{◌≡◌, ◌⊎◌};
 ghost use Rattle.definition.specs.Orders as orders;
-ghost use Rattle.definition.specs.Decode as decode;
 ghost use Rattle.rle.specs.Kinds.{kind_in};
-ghost use Rattle.rle.specs.declared.kind.Kind.TheVariants.{White, Black, NoOrder};
-ghost use Rattle.rle.specs.States.{frame_of};
-ghost use Rattle.rle.specs.Orders.{Ready, Executes};
+ghost use Rattle.rle.specs.declared.kind.Kind.TheVariants.{FgRun, SetFgRun, White, Black, NoOrder};
+ghost use Rattle.rle.specs.Carrying.{HasPicture, CarriesOut};
 
+use crate::frame::Frame;
 use crate::kind::Kind;
-use crate::paint::{paint_bg_run, paint_dithered, paint_fg_run, paint_run, paint_single, solid};
+use crate::order::Order;
+use crate::paint::Ink;
 use crate::pixel::read_pixel;
-use crate::state::{Frame, State, Stepped};
+use crate::state::Stepped;
 
-pub(crate) fn bg_run(dst: &mut [u8], f: Frame, s: State, n: usize) -> Stepped
-    requires { Ready (length dst.old) (frame_of f) s n }
-    ensures { (src : List ℕ) → s.pos ≤ length src → Executes (frame_of f) src dst.old dst.new s result (decode.order_of (frame_of f) orders.Kind.BgRun n) }
-{
-    let d = f.depth.bytes;
-    let p = f.room(s.pixels).run(n);
-    paint_bg_run(
-        dst,
-        d,
-        f.width,
-        s.pixels,
-        p.pixels,
-        s.insert,
-        s.fg_ink(),
-        s.bg_ink(f),
-    );
-    s.finished(p, true)
-}
-
-pub(crate) fn fg_run(dst: &mut [u8], f: Frame, s: State, n: usize) -> Stepped
-    requires { Ready (length dst.old) (frame_of f) s n }
-    ensures { (src : List ℕ) → s.pos ≤ length src → Executes (frame_of f) src dst.old dst.new s result (decode.order_of (frame_of f) orders.Kind.FgRun n) }
-{
-    let d = f.depth.bytes;
-    let p = f.room(s.pixels).run(n);
-    paint_fg_run(dst, d, f.width, s.pixels, p.pixels, s.fg_ink());
-    s.finished(p, false)
-}
-
-pub(crate) fn set_fg_run(src: &[u8], dst: &mut [u8], f: Frame, s: State, n: usize) -> Stepped
-    requires ready { Ready (length dst.old) (frame_of f) s n }
-    requires pos_in_bounds { s.pos ≤ length src.now }
-    ensures { Executes (frame_of f) src.now dst.old dst.new s result (decode.order_of (frame_of f) orders.Kind.SetFgRun n) }
-{
-    let d = f.depth.bytes;
-    let p = f.room(s.pixels).pixel_run(n, src.len() - s.pos);
-    let t = s.new_foreground(src, d);
-    paint_fg_run(dst, d, f.width, s.pixels, p.pixels, t.fg_ink());
-    t.finished(p, false)
-}
-
-pub(crate) fn color_run(src: &[u8], dst: &mut [u8], f: Frame, s: State, n: usize) -> Stepped
-    requires ready { Ready (length dst.old) (frame_of f) s n }
-    requires pos_in_bounds { s.pos ≤ length src.now }
-    ensures { Executes (frame_of f) src.now dst.old dst.new s result (decode.order_of (frame_of f) orders.Kind.ColorRun n) }
-{
-    let d = f.depth.bytes;
-    let p = f.room(s.pixels).pixel_run(n, src.len() - s.pos);
-    if p.pixels == 0 {
-        return s.finished(p, false);
+impl<'a> Order<'a> {
+    pub(crate) fn bg_run(self, dst: &mut [u8]) -> Stepped
+        requires { HasPicture self dst.old }
+        ensures { CarriesOut self.entry orders.Kind.BgRun dst.old dst.new result }
+    {
+        let s = self.state;
+        let p = self.frame.room(s.pixels).run(self.run_length);
+        let span = s.span(self.frame, p.pixels);
+        span.paint_bg_run(dst, s.insert_ink(), s.bg_ink(self.frame));
+        s.finished(p, Kind::BgRun)
     }
-    let color = read_pixel(src, d, s.pos);
-    paint_run(dst, d, f.width, s.pixels, p.pixels, solid(color));
-    s.finished(p, false)
-}
 
-pub(crate) fn dithered_run(src: &[u8], dst: &mut [u8], f: Frame, s: State, n: usize) -> Stepped
-    requires ready { Ready (length dst.old) (frame_of f) s n }
-    requires pos_in_bounds { s.pos ≤ length src.now }
-    ensures { Executes (frame_of f) src.now dst.old dst.new s result (decode.order_of (frame_of f) orders.Kind.DitheredRun n) }
-{
-    let d = f.depth.bytes;
-    let p = f.room(s.pixels).dithered_run(n, src.len() - s.pos);
-    if p.pixels == 0 {
-        return s.finished(p, false);
+    // A foreground run, with or without a foreground of its own. Each kind has a copy of its own, so that neither tests for the other.
+    #[inline(always)]
+    pub(crate) fn fg_run(self, dst: &mut [u8], kind: Kind) -> Stepped
+        requires place { HasPicture self dst.old }
+        requires run { (kind ≡ FgRun) ⊎ (kind ≡ SetFgRun) }
+        ensures { CarriesOut self.entry (kind_in kind) dst.old dst.new result }
+    {
+        let s = self.state;
+        let left = self.src.len() - s.pos;
+        let p = self
+            .frame
+            .room(s.pixels)
+            .fg_run(kind, self.run_length, left);
+        let t = self.with_foreground(kind);
+        s.span(self.frame, p.pixels).paint_fg_run(dst, t.fg_ink());
+        t.finished(p, kind)
     }
-    let a = read_pixel(src, d, s.pos);
-    let b = read_pixel(src, d, s.pos + d);
-    paint_dithered(dst, d, s.pixels, p.pixels, a, b);
-    s.finished(p, false)
+
+    pub(crate) fn color_run(self, dst: &mut [u8]) -> Stepped
+        requires { HasPicture self dst.old }
+        ensures { CarriesOut self.entry orders.Kind.ColorRun dst.old dst.new result }
+    {
+        let s = self.state;
+        let left = self.src.len() - s.pos;
+        let p = self.frame.room(s.pixels).pixel_run(self.run_length, left);
+        if p.pixels == 0 {
+            return s.finished(p, Kind::ColorRun);
+        }
+        let color = read_pixel(self.src, self.frame.depth.bytes, s.pos);
+        s.span(self.frame, p.pixels)
+            .paint_run(dst, Ink::Solid(color));
+        s.finished(p, Kind::ColorRun)
+    }
+
+    pub(crate) fn dithered_run(self, dst: &mut [u8]) -> Stepped
+        requires { HasPicture self dst.old }
+        ensures { CarriesOut self.entry orders.Kind.DitheredRun dst.old dst.new result }
+    {
+        let s = self.state;
+        let d = self.frame.depth.bytes;
+        let left = self.src.len() - s.pos;
+        let p = self
+            .frame
+            .room(s.pixels)
+            .dithered_run(self.run_length, left);
+        if p.pixels == 0 {
+            return s.finished(p, Kind::DitheredRun);
+        }
+        let a = read_pixel(self.src, d, s.pos);
+        let b = read_pixel(self.src, d, s.pos + d);
+        s.span(self.frame, p.pixels).paint_dithered(dst, a, b);
+        s.finished(p, Kind::DitheredRun)
+    }
+
+    // One white or black pixel, or no order. One function for them: as arms of a jump they would be mispredicted half the time.
+    pub(crate) fn one_pixel(self, dst: &mut [u8], kind: Kind) -> Stepped
+        requires place { HasPicture self dst.old }
+        requires one { self.run_length.pixels ≡ 1 }
+        requires pixel { (kind ≡ White) ⊎ ((kind ≡ Black) ⊎ (kind ≡ NoOrder)) }
+        ensures { CarriesOut self.entry (kind_in kind) dst.old dst.new result }
+    {
+        let s = self.state;
+        let p = self.frame.room(s.pixels).pixel(kind);
+        if p.pixels == 0 {
+            return s.finished(p, kind);
+        }
+        s.span(self.frame, p.pixels)
+            .paint_pixel(dst, 0, Ink::Solid(white_or_black(self.frame, kind)));
+        s.finished(p, kind)
+    }
 }
 
 // The color of a white or black order.
@@ -96,16 +108,4 @@ pub(crate) fn white_or_black(f: Frame, kind: Kind) -> [u8; 3]
         Kind::White => f.depth.white,
         _ => f.depth.black,
     }
-}
-
-// One white or black pixel, or no order. One function for them: as arms of a jump they would be mispredicted half the time.
-pub(crate) fn one_pixel(dst: &mut [u8], f: Frame, s: State, kind: Kind) -> Stepped
-    requires ready { Ready (length dst.old) (frame_of f) s 1 }
-    requires pixel { (kind ≡ White) ⊎ ((kind ≡ Black) ⊎ (kind ≡ NoOrder)) }
-    ensures { (src : List ℕ) → s.pos ≤ length src → Executes (frame_of f) src dst.old dst.new s result (decode.order_of (frame_of f) (kind_in kind) 1) }
-{
-    let d = f.depth.bytes;
-    let p = f.room(s.pixels).pixel(kind);
-    paint_single(dst, d, s.pixels, p.pixels, white_or_black(f, kind));
-    s.finished(p, false)
 }

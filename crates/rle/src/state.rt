@@ -1,21 +1,15 @@
-// The decoder's frame and state, and what its orders paint with.
-ghost use Rattle.std.specs.Prelude.{◌≡◌, ◌-◌, ◌≤◌, length, drop};
-ghost use Rattle.picture.specs.Sizes.{checked};
-ghost use Rattle.definition.specs.Plan as plan;
-ghost use Rattle.rle.specs.States.{checked_in, row_ink, fg_of, bg_of, with_fg, start_of, at_pos, completed_in, refused_in, first_row_ended, Fits, finished_of};
+// The decoder's state, and what its orders paint with.
+ghost use Rattle.std.specs.Prelude.{◌≡◌, ◌+◌, ◌≤◌};
+ghost use Rattle.definition.specs.Plan.{leaves_insert};
+ghost use Rattle.rle.specs.Kinds.{kind_in};
+ghost use Rattle.rle.specs.States.{fg_of, bg_of, insert_of, IsSpan, start_of, at_pos, completed_in, refused_in, first_row_ended, Fits, finished_of};
 
-use crate::paint::{Ink, Mode, solid};
-use crate::pixel::read_pixel;
-use crate::plan::{Plan, Room};
-use picture::{Depth, RleError, depth_of, picture_size};
-
-// What a picture's orders go by: its depth, its width, and its pixels.
-#[derive(Clone, Copy)]
-pub(crate) struct Frame {
-    pub(crate) depth: Depth,
-    pub(crate) width: usize,
-    pub(crate) total: usize,
-}
+use crate::frame::Frame;
+use crate::kind::Kind;
+use crate::paint::Ink;
+use crate::plan::Plan;
+use crate::span::Span;
+use picture::RleError;
 
 // Where decoding stands between orders: the foreground, the place in the stream, whether an insert is pending, the pixels painted,
 // the first-row mark, the orders completed. No two fields of one byte stand side by side: the compiler would pack them into one
@@ -35,32 +29,6 @@ pub(crate) struct State {
 pub(crate) struct Stepped {
     pub(crate) ending: Result<(), RleError>,
     pub(crate) state: State,
-}
-
-impl Frame {
-    // The frame of a picture, or the refusal of its depth or its sizes.
-    pub(crate) fn new(width: usize, height: usize, bpp: usize) -> Result<Self, RleError>
-        ensures { checked_in result ≡ checked bpp width height }
-    {
-        let depth = depth_of(bpp).ok_or(RleError::InvalidBpp { bpp })?;
-        picture_size(width, height, bpp)?;
-        Ok(Frame {
-            depth,
-            width,
-            total: width * height,
-        })
-    }
-
-    // What the picture has left behind so many pixels.
-    pub(crate) fn room(self, pixels: usize) -> Room
-        requires { (self.depth.bytes ≤ 3) × (self.total ≤ 67108864) × (pixels ≤ self.total) }
-        ensures { (result.bytes ≡ self.depth.bytes) × (result.pixels ≡ self.total - pixels) }
-    {
-        Room {
-            bytes: self.depth.bytes,
-            pixels: self.total - pixels,
-        }
-    }
 }
 
 impl State {
@@ -118,16 +86,16 @@ impl State {
         self
     }
 
-    // The state behind an order that is carried out as planned, and leaves an insert pending or not.
-    pub(crate) fn finished(self, p: Plan, insert: bool) -> Stepped
+    // The state behind an order of this kind that is carried out as planned.
+    pub(crate) fn finished(self, p: Plan, kind: Kind) -> Stepped
         requires { Fits self p }
-        ensures { result ≡ finished_of self p insert }
+        ensures { result ≡ finished_of self p (leaves_insert (kind_in kind)) }
     {
         let mut t = self;
         t.pos = self.pos + p.read;
         t.pixels = self.pixels + p.pixels;
         if p.ending.is_ok() {
-            t.insert = insert;
+            t.insert = kind.leaves_insert();
             t.orders = self.orders + 1;
         }
         Stepped {
@@ -136,42 +104,45 @@ impl State {
         }
     }
 
+    // The foreground's ink.
     pub(crate) fn fg_ink(self) -> Ink
         ensures { result ≡ fg_of self }
     {
         let foreground = self.foreground;
-        row_ink(self.first_row, Mode::AboveXor, foreground)
+        if self.first_row {
+            return Ink::Solid(foreground);
+        }
+        Ink::AboveXor(foreground)
     }
 
+    // The background's ink.
     pub(crate) fn bg_ink(self, f: Frame) -> Ink
         ensures { result ≡ bg_of f self }
     {
         let black = f.depth.black;
-        row_ink(self.first_row, Mode::Above, black)
-    }
-
-    // The state with the foreground that stands next in the stream, where its bytes are there.
-    pub(crate) fn new_foreground(mut self, src: &[u8], d: usize) -> Self
-        requires { (1 ≤ d) × (d ≤ 3) × (self.pos ≤ length src.now) }
-        ensures { result ≡ with_fg self (plan.new_foreground d self.foreground (drop self.pos src.now)) }
-    {
-        if d <= src.len() - self.pos {
-            let p = read_pixel(src, d, self.pos);
-            self.foreground = p;
+        if self.first_row {
+            return Ink::Solid(black);
         }
-        self
+        Ink::Above
     }
-}
 
-// In the first row a color; later by the pixel above, in the mode `later`.
-pub(crate) fn row_ink(first: bool, later: Mode, p: [u8; 3]) -> Ink
-    ensures { result ≡ row_ink first later p }
-{
-    if first {
-        return solid(p);
+    // The ink of the pixel that a background run begins with where an insert is pending.
+    pub(crate) fn insert_ink(self) -> Option<Ink>
+        ensures { result ≡ insert_of self }
+    {
+        self.insert.then_some(self.fg_ink())
     }
-    Ink {
-        mode: later,
-        pixel: p,
+
+    // The n pixels that come next.
+    pub(crate) fn span(self, f: Frame, n: usize) -> Span
+        requires { self.pixels + n ≤ 67108864 }
+        ensures { IsSpan f self n result }
+    {
+        Span {
+            bytes: f.depth.bytes,
+            width: f.width,
+            start: self.pixels,
+            pixels: n,
+        }
     }
 }

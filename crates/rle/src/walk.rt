@@ -1,15 +1,19 @@
 // A walk over a stream's orders by their plans, without a target: the same plans as the decoder's, by `Room::order`, which the decoder
 // does not call, since one that two loops call would be slower for both. The plain decoder does, but no library for C has both loops.
-ghost use Rattle.std.specs.Prelude.{◌≡◌, false, ◌≤◌, ltb};
-ghost use Rattle.base.specs.Picks.{pick};
+ghost use Rattle.std.specs.Prelude.{◌≡◌, ◌≤◌};
+ghost use Rattle.definition.specs.Decode as decode;
+ghost use Rattle.definition.specs.Decode.{summary_of};
+ghost use Rattle.rle.specs.Report.{summary_in};
+ghost use Rattle.rle.specs.Reporting.{report_in};
 ghost use Rattle.rle.specs.States.{frame_of};
 ghost use Rattle.rle.specs.Walks.{start_walk};
-ghost use Rattle.rle.specs.Walking.{WalksOrders, stopped_at, found_by, ending_by};
+ghost use Rattle.rle.specs.Walking.{WalksOrders, row_ended, stopped_at, found_by};
 
+use crate::frame::Frame;
 use crate::head::read_head;
 use crate::header::Headers;
-use crate::record::{OrderRecord, record_at};
-use crate::state::Frame;
+use crate::record::OrderRecord;
+use crate::report::Report;
 use picture::RleError;
 
 // Where a walk stands between two orders: the place in the stream, the pixels painted, whether an insert is pending, the first-row
@@ -33,6 +37,17 @@ impl Walk {
             insert: false,
             first_row: true,
         }
+    }
+
+    // The first row ends for good at an order's start with at least one row painted, and a pending insert is dropped.
+    pub(crate) fn end_first_row(mut self, width: usize) -> Self
+        ensures { result ≡ row_ended width self }
+    {
+        if self.first_row && width <= self.pixels {
+            self.insert = false;
+            self.first_row = false;
+        }
+        self
     }
 
     // The answer of a walk that stops here.
@@ -72,59 +87,27 @@ impl Walked {
     pub(crate) fn found(self) -> Option<Found>
         ensures { result ≡ found_by self.stop self.walk }
     {
-        match self.stop {
-            Ok(Some(order)) => Some(Found {
-                order,
-                walk: self.walk,
-            }),
-            _ => None,
-        }
-    }
-
-    // How the stream ended up to where the walk stopped.
-    pub(crate) fn ending(self) -> Result<(), RleError>
-        ensures { result ≡ ending_by self.stop }
-    {
-        match self.stop {
-            Ok(_) => Ok(()),
-            Err(e) => Err(e),
-        }
+        let order = self.stop.ok()??;
+        Some(Found {
+            order,
+            walk: self.walk,
+        })
     }
 }
 
-// Whether an order that starts with k pixels painted is still in the first row of w pixels: once the row has ended, it has for good.
-pub(crate) fn still_first_row(first: bool, k: usize, w: usize) -> bool
-    ensures { result ≡ pick first (ltb k w) false }
-{
-    first && k < w
-}
-
-// A pending insert is dropped where the first row ends.
-pub(crate) fn insert_kept(insert: bool, first: bool, k: usize, w: usize) -> bool
-    ensures { result ≡ pick first (pick (ltb k w) insert false) insert }
-{
-    if first && w <= k {
-        return false;
-    }
-    insert
-}
-
-// Orders from `from` on until number n of them, counted from 0, is completed, or to the stream's end or its refusal. The walk's fields
-// are stored one by one: a copy of a whole state goes through memory, with what lies between its fields.
+// Orders from `from` on until number n of them, counted from 0, is completed, or to the stream's end or its refusal.
 pub(crate) fn walk_orders(src: &[u8], f: Frame, from: Walk, n: usize) -> Walked
-    requires { (f.depth.bytes ≤ 3) × (f.total ≤ 67108864) × (from.pixels ≤ f.total) }
+    requires { from.pixels ≤ f.total }
     ensures { WalksOrders (frame_of f) src.now from n result }
 {
     let headers = Headers::new();
     let mut walk = from;
     let mut orders = 0;
     loop {
-        let head = match read_head(src, &headers, walk.pos) {
-            Ok(head) => head,
+        let o = match read_head(src, &headers, walk.pos) {
+            Ok(Some(o)) => o,
+            Ok(None) => return walk.stopped(Ok(None), orders),
             Err(r) => return walk.stopped(Err(r.error), orders),
-        };
-        let Some(o) = head else {
-            return walk.stopped(Ok(None), orders);
         };
         let p = f
             .room(walk.pixels)
@@ -133,15 +116,33 @@ pub(crate) fn walk_orders(src: &[u8], f: Frame, from: Walk, n: usize) -> Walked
             walk.pixels += p.pixels;
             return walk.stopped(Err(e), orders);
         }
-        let insert = insert_kept(walk.insert, walk.first_row, walk.pixels, f.width);
-        walk.first_row = still_first_row(walk.first_row, walk.pixels, f.width);
-        walk.pixels += p.pixels;
-        walk.pos = o.next + p.read;
-        walk.insert = o.kind.leaves_insert();
+        let begun = walk.end_first_row(f.width);
+        walk = Walk {
+            pos: o.next + p.read,
+            pixels: begun.pixels + p.pixels,
+            insert: o.kind.leaves_insert(),
+            first_row: begun.first_row,
+        };
         orders += 1;
         if n < orders {
-            let r = record_at(o, p.pixels, walk.first_row, insert);
+            let r = OrderRecord::new(o, begun, p.pixels);
             return walk.stopped(Ok(Some(r)), orders);
         }
     }
+}
+
+// The report of the stream of a picture, without a target, or the refusal of its depth or its sizes.
+pub(crate) fn count_in(
+    src: &[u8],
+    width: usize,
+    height: usize,
+    bpp: usize,
+) -> Result<Report, RleError>
+    ensures { summary_in (report_in result) ≡ summary_of (decode.result src.now bpp width height) }
+{
+    let f = Frame::new(width, height, bpp)?;
+    // No picture completes more orders than it has pixels.
+    let r = walk_orders(src, f, Walk::start(), f.total);
+    let ending = r.stop.map(|_| ());
+    Ok(Report::new(ending, r.walk.pixels, r.orders, f.depth.format))
 }

@@ -1,19 +1,6 @@
--- `count_orders` meets its contract: refused before the stream, or walked to its end. Assumes nothing.
-use Prim.Native.Nat.{zero-le}
-use Rattle.rle.proofs.Calls.{frame_known}
-use Rattle.rle.proofs.Counting.{counts-refused, counts_walked}
+-- `count_orders` meets its contract: what was counted, or the report of a refusal. Assumes nothing.
+use Rattle.rle.proofs.Calls.{unwrapped}
 use Rattle.rle.proofs.count_orders.Goals as goal
 
-pub returns-in-Err : goal.returns-in-Err
-returns-in-Err c =
-    counts-refused c.args.src.now c.args.bpp c.args.width c.args.height c.not_decoded.ensures c.in-Err.ensures
-
-pub walk_orders-r-requires : goal.walk_orders-r-requires
-walk_orders-r-requires c =
-    let k = frame_known c.args.bpp c.args.width c.args.height c.in-Ok.f c.in-Ok.ensures in
-    rw c.start.ensures (k.high, k.few, zero-le)
-
 pub returns : goal.returns
-returns c =
-    counts_walked c.args.bpp c.args.width c.args.height c.in-Ok.f c.in-Ok.ensures c.args.src.now c.walk_orders-r.result
-    (rw c.start.ensures at c.walk_orders-r.ensures) _ (rw c.ending.ensures at c.new-2.ensures)
+returns c = rw (unwrapped c.count_in.result c.unwrap_or_else.result c.unwrap_or_else.ensures) c.count_in.ensures

@@ -1,50 +1,34 @@
 // Each run writer beside its plain loop, on two targets: that they leave the same bytes, as the contract of two calls. Nothing calls
 // these functions; the prover holds them.
-ghost use Rattle.std.specs.Prelude.{◌≡◌, ◌+◌, ◌-◌, ◌*◌, ◌%◌, ◌≤◌, length};
+ghost use Rattle.std.specs.Prelude.{◌≡◌, ◌+◌, ◌-◌, ◌*◌, ◌%◌, ◌≤◌, IfSome, length};
 ghost use Rattle.picture.specs.Pixels.{OfDepth};
-ghost use Rattle.rle.specs.Painting.{HasPlace, Paintable, MaskInks};
+ghost use Rattle.rle.specs.Painting.{HasPlace, Paintable, HasColor, ink_of, zero_ink};
 
-use crate::paint;
 use crate::paint::Ink;
 use crate::plain::paint as plain;
+use crate::span::Span;
 
 // A color, the pixel above, or the pixel above exclusive-or a color.
-pub(crate) fn run_beside(
-    a: &mut [u8],
-    b: &mut [u8],
-    d: usize,
-    w: usize,
-    k: usize,
-    n: usize,
-    ink: Ink,
-)
-    requires paintable { Paintable d w k n a.old ink }
-    requires a_value { a.old ≡ b.old }
+pub(crate) fn run_beside(a: &mut [u8], b: &mut [u8], span: Span, ink: Ink)
+    requires place { HasPlace span a.old }
+    requires paintable { Paintable span ink }
+    requires same { a.old ≡ b.old }
     ensures { a.new ≡ b.new }
 {
-    paint::paint_run(a, d, w, k, n, ink);
-    plain::paint_run(b, d, w, k, n, ink);
+    span.paint_run(a, ink);
+    plain::paint_run(b, span, ink);
 }
 
 // A background run, with an insert pending or without.
-pub(crate) fn bg_run_beside(
-    a: &mut [u8],
-    b: &mut [u8],
-    d: usize,
-    w: usize,
-    k: usize,
-    n: usize,
-    insert: bool,
-    fg: Ink,
-    bg: Ink,
-)
-    requires paintable { Paintable d w k n a.old fg }
-    requires paintable_2 { Paintable d w k n a.old bg }
-    requires a_value { a.old ≡ b.old }
+pub(crate) fn bg_run_beside(a: &mut [u8], b: &mut [u8], span: Span, insert: Option<Ink>, bg: Ink)
+    requires place { HasPlace span a.old }
+    requires insert { IfSome insert (λ ink. Paintable span ink) }
+    requires bg { Paintable span bg }
+    requires same { a.old ≡ b.old }
     ensures { a.new ≡ b.new }
 {
-    paint::paint_bg_run(a, d, w, k, n, insert, fg, bg);
-    plain::paint_bg_run(b, d, w, k, n, insert, fg, bg);
+    span.paint_bg_run(a, insert, bg);
+    plain::paint_bg_run(b, span, insert, bg);
 }
 
 // The masks from src[from] on.
@@ -53,57 +37,40 @@ pub(crate) fn masks_beside(
     from: usize,
     a: &mut [u8],
     b: &mut [u8],
-    d: usize,
-    w: usize,
-    k: usize,
-    n: usize,
+    span: Span,
     fg: Ink,
     bg: Ink,
 )
-    requires paintable { Paintable d w k n a.old fg }
-    requires paintable_2 { Paintable d w k n a.old bg }
-    requires n_bound { (n ≤ (length src.now - from) * 8) × MaskInks fg bg }
-    requires a_value { a.old ≡ b.old }
+    requires place { HasPlace span a.old }
+    requires fg { Paintable span fg × HasColor fg }
+    requires bg { Paintable span bg × (ink_of bg ≡ zero_ink fg) }
+    requires masks { span.pixels ≤ (length src.now - from) * 8 }
+    requires same { a.old ≡ b.old }
     ensures { a.new ≡ b.new }
 {
-    paint::paint_masks(src, from, a, d, w, k, n, fg, bg);
-    plain::paint_masks(src, from, b, d, w, k, n, fg, bg);
+    span.paint_masks(src, from, a, fg);
+    plain::paint_masks(src, from, b, span, fg, bg);
 }
 
 // Two colors by turns.
-pub(crate) fn dithered_beside(
-    a: &mut [u8],
-    b: &mut [u8],
-    d: usize,
-    k: usize,
-    n: usize,
-    p: [u8; 3],
-    q: [u8; 3],
-)
-    requires has_place { HasPlace d k n a.old }
-    requires n_value { (n % 2 ≡ 0) × OfDepth d p × OfDepth d q }
-    requires a_value { a.old ≡ b.old }
+pub(crate) fn dithered_beside(a: &mut [u8], b: &mut [u8], span: Span, p: [u8; 3], q: [u8; 3])
+    requires place { HasPlace span a.old }
+    requires even { span.pixels % 2 ≡ 0 }
+    requires of_depth { OfDepth span.bytes p × OfDepth span.bytes q }
+    requires same { a.old ≡ b.old }
     ensures { a.new ≡ b.new }
 {
-    paint::paint_dithered(a, d, k, n, p, q);
-    plain::paint_dithered(b, d, k, n, p, q);
+    span.paint_dithered(a, p, q);
+    plain::paint_dithered(b, span, p, q);
 }
 
 // The pixels of the stream from src[pos] on.
-pub(crate) fn image_beside(
-    src: &[u8],
-    pos: usize,
-    a: &mut [u8],
-    b: &mut [u8],
-    d: usize,
-    k: usize,
-    n: usize,
-)
-    requires has_place { HasPlace d k n a.old }
-    requires d_in_bounds { pos + n * d ≤ length src.now }
-    requires a_value { a.old ≡ b.old }
+pub(crate) fn image_beside(src: &[u8], pos: usize, a: &mut [u8], b: &mut [u8], span: Span)
+    requires place { HasPlace span a.old }
+    requires operands { pos + span.pixels * span.bytes ≤ length src.now }
+    requires same { a.old ≡ b.old }
     ensures { a.new ≡ b.new }
 {
-    paint::paint_image(src, pos, a, d, k, n);
-    plain::paint_image(src, pos, b, d, k, n);
+    span.paint_image(src, pos, a);
+    plain::paint_image(src, pos, b, span);
 }

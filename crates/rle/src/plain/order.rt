@@ -1,86 +1,114 @@
 // One order of the plain decoder: its plan, its foreground, its pixels, and its end, each by its kind.
-ghost use Rattle.std.specs.Prelude.{◌≡◌, ◌-◌, ◌≤◌, length, drop};
-ghost use Rattle.definition.specs.Decode as decode;
+ghost use Rattle.std.specs.Prelude.{◌≡◌, ◌+◌, ◌-◌, ◌≤◌, length, drop};
 ghost use Rattle.definition.specs.Plan as plan;
 ghost use Rattle.rle.specs.Kinds.{kind_in};
 ghost use Rattle.rle.specs.Painting.{Painted, ink_of};
 ghost use Rattle.rle.specs.States.{frame_of, fg_of, bg_of};
-ghost use Rattle.rle.specs.Orders.{Ready, Executes};
-ghost use Rattle.rle.specs.Operands.{ReadyToPaint};
+ghost use Rattle.rle.specs.Carrying.{HasPicture, CarriesOut};
+ghost use Rattle.rle.specs.Operands.{HasOperands};
 
+use crate::frame::Frame;
 use crate::image::special_mask;
 use crate::kind::Kind;
-use crate::paint::{Mode, solid};
+use crate::order::Order;
+use crate::paint::Ink;
 use crate::pixel::read_pixel;
 use crate::plain::paint::{
     paint_bg_run, paint_dithered, paint_image, paint_mask, paint_masks, paint_run,
 };
 use crate::plan::foreground_size;
 use crate::run::white_or_black;
-use crate::state::{Frame, State, Stepped, row_ink};
+use crate::span::Span;
+use crate::state::{State, Stepped};
 
-// The foreground that the order leaves: the one that stands first in its operands, if it reads one and its bytes are there, else p.
-pub(crate) fn order_foreground(src: &[u8], d: usize, pos: usize, kind: Kind, p: [u8; 3]) -> [u8; 3]
-    requires { (1 ≤ d) × (d ≤ 3) × (pos ≤ length src.now) }
-    ensures { result ≡ plan.foreground_by d (kind_in kind) p (drop pos src.now) }
+// The foreground that the order leaves: the one that stands first in its operands, if it reads one and its bytes are there, else the
+// state's.
+pub(crate) fn order_foreground(o: Order<'_>, kind: Kind) -> [u8; 3]
+    ensures { result ≡ plan.foreground_by o.entry.frame.depth.bytes (kind_in kind) o.entry.state.foreground (drop o.entry.state.pos o.entry.src.now) }
 {
-    if kind.sets_foreground() && d <= src.len() - pos {
-        return read_pixel(src, d, pos);
+    let d = o.frame.depth.bytes;
+    let pos = o.state.pos;
+    if kind.sets_foreground() && d <= o.src.len() - pos {
+        return read_pixel(o.src, d, pos);
     }
-    p
+    let before = o.state.foreground;
+    before
+}
+
+// The inks of the foreground and the background: in the first row colors, later by the pixel above.
+pub(crate) fn row_inks(f: Frame, s: State) -> (Ink, Ink)
+    ensures { (result.0 ≡ fg_of s) × (result.1 ≡ bg_of f s) }
+{
+    let foreground = s.foreground;
+    let black = f.depth.black;
+    if s.first_row {
+        return (Ink::Solid(foreground), Ink::Solid(black));
+    }
+    (Ink::AboveXor(foreground), Ink::Above)
 }
 
 // The order's n pixels, in the state with its foreground.
-pub(crate) fn paint_order(src: &[u8], dst: &mut [u8], f: Frame, s: State, kind: Kind, n: usize)
-    requires { ReadyToPaint src.now dst.old f s kind n }
-    ensures { Painted f.depth.bytes f.width (plan.kind_ink (frame_of f) (kind_in kind) s.insert (ink_of (fg_of s)) (ink_of (bg_of f s)) (drop s.pos src.now)) s.pixels n dst.old dst.new }
+pub(crate) fn paint_order(dst: &mut [u8], o: Order<'_>, kind: Kind, n: usize)
+    requires place { HasPicture o dst.old }
+    requires room { o.state.pixels + n ≤ o.frame.total }
+    requires operands { HasOperands kind o.frame.depth.bytes n (length o.src.now - o.state.pos) }
+    ensures { Painted o.entry.frame.depth.bytes o.entry.frame.width (plan.kind_ink (frame_of o.entry.frame) (kind_in kind) o.entry.state.insert (ink_of (fg_of o.entry.state)) (ink_of (bg_of o.entry.frame o.entry.state)) (drop o.entry.state.pos o.entry.src.now)) o.entry.state.pixels n dst.old dst.new }
 {
     if n == 0 {
         return;
     }
-    let d = f.depth.bytes;
-    let w = f.width;
-    let k = s.pixels;
-    let pos = s.pos;
-    let foreground = s.foreground;
-    let black = f.depth.black;
-    let fg = row_ink(s.first_row, Mode::AboveXor, foreground);
-    let bg = row_ink(s.first_row, Mode::Above, black);
+    let src = o.src;
+    let pos = o.state.pos;
+    let d = o.frame.depth.bytes;
+    let w = o.frame.width;
+    let span = Span {
+        bytes: d,
+        width: w,
+        start: o.state.pixels,
+        pixels: n,
+    };
+    let (fg, bg) = row_inks(o.frame, o.state);
     match kind {
-        Kind::BgRun => paint_bg_run(dst, d, w, k, n, s.insert, fg, bg),
-        Kind::FgRun | Kind::SetFgRun => paint_run(dst, d, w, k, n, fg),
+        Kind::BgRun => paint_bg_run(dst, span, o.state.insert.then_some(fg), bg),
+        Kind::FgRun | Kind::SetFgRun => paint_run(dst, span, fg),
         Kind::FgBgImage | Kind::SetFgBgImage => {
-            let masks = pos + foreground_size(d, kind);
-            paint_masks(src, masks, dst, d, w, k, n, fg, bg)
+            paint_masks(src, pos + foreground_size(d, kind), dst, span, fg, bg)
         }
         Kind::SpecialFgBg1 | Kind::SpecialFgBg2 => {
-            paint_mask(dst, d, w, k, n, special_mask(kind), fg, bg)
+            paint_mask(dst, span, special_mask(kind), fg, bg)
         }
-        Kind::ColorRun => paint_run(dst, d, w, k, n, solid(read_pixel(src, d, pos))),
-        Kind::ColorImage => paint_image(src, pos, dst, d, k, n),
+        Kind::ColorRun => paint_run(dst, span, Ink::Solid(read_pixel(src, d, pos))),
+        Kind::ColorImage => paint_image(src, pos, dst, span),
         Kind::DitheredRun => {
             let a = read_pixel(src, d, pos);
             let b = read_pixel(src, d, pos + d);
-            paint_dithered(dst, d, k, n, a, b)
+            paint_dithered(dst, span, a, b)
         }
-        Kind::White | Kind::Black => { paint_run(dst, d, w, k, n, solid(white_or_black(f, kind))) }
+        Kind::White | Kind::Black => {
+            paint_run(dst, span, Ink::Solid(white_or_black(o.frame, kind)))
+        }
         Kind::NoOrder => {}
     }
 }
 
-// An order of this kind and run length.
-pub(crate) fn order(src: &[u8], dst: &mut [u8], f: Frame, s: State, kind: Kind, n: usize) -> Stepped
-    requires ready { Ready (length dst.old) (frame_of f) s n }
-    requires pos_in_bounds { s.pos ≤ length src.now }
-    ensures { Executes (frame_of f) src.now dst.old dst.new s result (decode.order_of (frame_of f) (kind_in kind) n) }
+// An order, as one of this kind.
+pub(crate) fn order(dst: &mut [u8], o: Order<'_>, kind: Kind) -> Stepped
+    requires { HasPicture o dst.old }
+    ensures { CarriesOut o.entry (kind_in kind) dst.old dst.new result }
 {
-    let d = f.depth.bytes;
-    let p = f.room(s.pixels).order(kind, n, src.len() - s.pos);
+    let s = o.state;
+    let left = o.src.len() - s.pos;
+    let p = o.frame.room(s.pixels).order(kind, o.run_length, left);
     let mut t = s;
-    let before = s.foreground;
-    let foreground = order_foreground(src, d, s.pos, kind, before);
+    let foreground = order_foreground(o, kind);
     t.foreground = foreground;
-    paint_order(src, dst, f, t, kind, p.pixels);
+    let with_foreground = Order {
+        src: o.src,
+        frame: o.frame,
+        state: t,
+        run_length: o.run_length,
+    };
+    paint_order(dst, with_foreground, kind, p.pixels);
     t.pos = s.pos + p.read;
     t.pixels = s.pixels + p.pixels;
     // A refused order leaves the insert as it was, and is not counted.

@@ -30,12 +30,18 @@ returns-in-Err c =
           refl;
     })
 
-pub order-r-requires : goal.order-r-requires
-order-r-requires c =
-    let i = c.loop-t.invariant in
+pub invariant_of-next-clause-place : goal.invariant_of-next-clause-place
+invariant_of-next-clause-place c =
     let at = rw c.in-Ok-Some.field-0-is at c.in-Ok-Some.ensures in
-    rw c.moved.ensures
-    (record { ready = record { frame = rw i.0.same c.requires.framed; invariant = invariant_at _ i.0.invariant; some = at.some; few = at.few }; pos_in_bounds = at.place; fixed = at.fixed })
+    rw c.moved.ensures at.place
+
+pub invariant_of-next-clause-holds : goal.invariant_of-next-clause-holds
+invariant_of-next-clause-holds c = rw c.moved.ensures (invariant_at _ c.loop-t.invariant.0.invariant)
+
+pub carry_out-r-requires : goal.carry_out-r-requires
+carry_out-r-requires c =
+    let at = rw c.in-Ok-Some.field-0-is at c.in-Ok-Some.ensures in
+    record { place = rw c.loop-t.invariant.0.same c.requires.fits; fixed = at.fixed }
 
 pub returns-then-is_err : goal.returns-then-is_err
 returns-then-is_err c =
@@ -43,10 +49,10 @@ returns-then-is_err c =
     let at = rw c.in-Ok-Some.field-0-is at c.in-Ok-Some.ensures in
     let d =
     order_read c.args.f _ _ c.loop-t.t (row_stays c.args.f _ (λ e. omega (arith, c.loop-t.invariant.2 e))) at _ _
-    (rw c.moved.ensures at c.order-r.ensures) in
+    (rw c.moved.ensures at c.carry_out-r.ensures) in
     record {
       grows = omega (arith, l.invariant.1, d.0.grows);
-      decoded = between_refused _ _ _ _ _ l.invariant.0 d.2 _ _ d.0 _ _ (fails c.order-r.result.ending c.if-is_err.ensures.value).is;
+      decoded = between_refused _ _ _ _ _ l.invariant.0 d.2 _ _ d.0 _ _ (fails c.carry_out-r.result.ending c.if-is_err.ensures.value).is;
     }
 
 pub loop-t-smaller : goal.loop-t-smaller
@@ -54,7 +60,7 @@ loop-t-smaller c =
     let at = rw c.in-Ok-Some.field-0-is at c.in-Ok-Some.ensures in
     let d =
     order_read c.args.f _ _ c.loop-t.t (row_stays c.args.f _ (λ e. omega (arith, c.loop-t.invariant.2 e))) at _ _
-    (rw c.moved.ensures at c.order-r.ensures) in
+    (rw c.moved.ensures at c.carry_out-r.ensures) in
     omega (arith, d.1, d.2)
 
 pub loop-t-preserved : goal.loop-t-preserved
@@ -63,8 +69,8 @@ loop-t-preserved c =
     let at = rw c.in-Ok-Some.field-0-is at c.in-Ok-Some.ensures in
     let d =
     order_read c.args.f _ _ c.loop-t.t (row_stays c.args.f _ (λ e. omega (arith, c.loop-t.invariant.2 e))) at _ _
-    (rw c.moved.ensures at c.order-r.ensures) in (
-      between_on _ _ _ _ _ i.0 d.2 _ _ d.0 (completes c.order-r.result.ending c.if-is_err.ensures.value) d.1 c.order-r.auto.dst,
+    (rw c.moved.ensures at c.carry_out-r.ensures) in (
+      between_on _ _ _ _ _ i.0 d.2 _ _ d.0 (completes c.carry_out-r.result.ending c.if-is_err.ensures.value) d.1 c.carry_out-r.auto.dst,
       omega (arith, i.1, d.0.grows),
       λ e. i.2 (sym d.0.mark ∙ e),
     )

@@ -28,7 +28,7 @@ extract_run_length-requires c =
 pub returns : goal.returns
 returns c =
     let is = u8_is _ _ _ _ c.u8_from.ensures c.in-Ok.is in
-    head_read c.args.src.now c.args.pos _ _ is.1 c.kind-kind.ensures c.in_ok-length.length (omega (arith, is.1, c.type_inv.src c.args.pos))
+    head_read c.args.src.now c.args.pos _ _ is.1 c.kind-kind.ensures c.in_ok-length.length _ _ (omega (arith, is.1, c.type_inv.src c.args.pos))
     c.in_ok-length.ensures
 
 pub returns-in_err-length : goal.returns-in_err-length

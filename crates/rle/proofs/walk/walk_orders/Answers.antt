@@ -5,73 +5,68 @@ use Rattle.rle.specs.States.{frame_of}
 use Rattle.rle.proofs.Walks.{enough, order-refused, order-completed, record_walked, head-refused, walked_start, walked_end, walked_refused, walked_order, walked_on}
 use Rattle.rle.proofs.walk.walk_orders.Goals as goal
 
-pub loop-head-init : goal.loop-head-init
-loop-head-init c = walked_start (frame_of c.args.f) _ _ _ c.requires.2
+pub loop-o-init : goal.loop-o-init
+loop-o-init c = walked_start (frame_of c.args.f) _ _ _ c.requires
 
-pub returns-in_default : goal.returns-in_default
-returns-in_default c = rw c.stopped-in_default.ensures (walked_end c.loop-head.invariant (rw c.in_default.is at c.in-Ok.ensures))
+pub returns-in-Ok-None : goal.returns-in-Ok-None
+returns-in-Ok-None c = rw c.stopped.ensures (walked_end c.loop-o.invariant (rw c.in-Ok-None.field-0-is at c.in-Ok-None.ensures))
 
 pub returns-in-Err : goal.returns-in-Err
 returns-in-Err c =
-    rw c.stopped.ensures
-    (walked_refused c.loop-head.invariant
-    (head-refused c.args.f _ c.loop-head.walk c.loop-head.invariant.within c.in-Err.ensures))
+    rw c.stopped-in-Err.ensures
+    (walked_refused c.loop-o.invariant
+    (head-refused c.args.f _ c.loop-o.walk c.loop-o.invariant.within c.in-Err.ensures))
 
 pub room-requires : goal.room-requires
-room-requires c = (c.requires.0, c.requires.1, c.loop-head.invariant.within)
+room-requires c = c.loop-o.invariant.within
 
 pub overflow_sub-src : goal.overflow_sub-src
-overflow_sub-src c = (rw c.in-Some.is at c.in-Ok.ensures).place
-
-pub order-p-requires : goal.order-p-requires
-order-p-requires c =
-    let at = rw c.in-Some.is at c.in-Ok.ensures in
-    at.few
+overflow_sub-src c = (rw c.in-Ok-Some.field-0-is at c.in-Ok-Some.ensures).place
 
 pub overflow_add-walk : goal.overflow_add-walk
 overflow_add-walk c =
-    let at = rw c.in-Some.is at c.in-Ok.ensures in
-    let e = enough c.args.f _ c.loop-head.walk c.loop-head.invariant.within at c.order-p.result (rw (c.room.ensures.0, c.room.ensures.1) at c.order-p.ensures) in
-    omega (arith, e.pixels, c.loop-head.invariant.within, c.requires.1)
+    let at = rw c.in-Ok-Some.field-0-is at c.in-Ok-Some.ensures in
+    let e = enough c.args.f _ c.loop-o.walk c.loop-o.invariant.within at c.order-p.result (rw (c.room.ensures.0, c.room.ensures.1) at c.order-p.ensures) in
+    omega (arith, e.pixels, c.loop-o.invariant.within, c.args.f.few)
 
 pub returns-in-Err-ending : goal.returns-in-Err-ending
 returns-in-Err-ending c =
-    let at = rw c.in-Some.is at c.in-Ok.ensures in
+    let at = rw c.in-Ok-Some.field-0-is at c.in-Ok-Some.ensures in
     rw c.stopped-in-Err-ending.ensures
-    (walked_refused c.loop-head.invariant
-    (order-refused c.args.f _ c.loop-head.walk c.loop-head.invariant.within at c.order-p.result (rw (c.room.ensures.0, c.room.ensures.1) at c.order-p.ensures) _ c.in-Err-ending.is))
+    (walked_refused c.loop-o.invariant
+    (order-refused c.args.f _ c.loop-o.walk c.loop-o.invariant.within at c.order-p.result (rw (c.room.ensures.0, c.room.ensures.1) at c.order-p.ensures) _ c.in-Err-ending.is))
 
-pub overflow_add-walk-in-loop-head : goal.overflow_add-walk-in-loop-head
-overflow_add-walk-in-loop-head c =
-    let at = rw c.in-Some.is at c.in-Ok.ensures in
-    let e = enough c.args.f _ c.loop-head.walk c.loop-head.invariant.within at c.order-p.result (rw (c.room.ensures.0, c.room.ensures.1) at c.order-p.ensures) in
-    omega (arith, e.pixels, c.loop-head.invariant.within, c.requires.1)
-
-pub overflow_add-walk-in-loop-head-2 : goal.overflow_add-walk-in-loop-head-2
-overflow_add-walk-in-loop-head-2 c =
-    let at = rw c.in-Some.is at c.in-Ok.ensures in
-    let e = enough c.args.f _ c.loop-head.walk c.loop-head.invariant.within at c.order-p.result (rw (c.room.ensures.0, c.room.ensures.1) at c.order-p.ensures) in
+pub overflow_add-walk-in-loop-o : goal.overflow_add-walk-in-loop-o
+overflow_add-walk-in-loop-o c =
+    let at = rw c.in-Ok-Some.field-0-is at c.in-Ok-Some.ensures in
+    let e = enough c.args.f _ c.loop-o.walk c.loop-o.invariant.within at c.order-p.result (rw (c.room.ensures.0, c.room.ensures.1) at c.order-p.ensures) in
     omega (arith, e.read, at.place)
+
+pub overflow_add-walk-in-loop-o-2 : goal.overflow_add-walk-in-loop-o-2
+overflow_add-walk-in-loop-o-2 c =
+    let at = rw c.in-Ok-Some.field-0-is at c.in-Ok-Some.ensures in
+    let e = enough c.args.f _ c.loop-o.walk c.loop-o.invariant.within at c.order-p.result (rw (c.room.ensures.0, c.room.ensures.1) at c.order-p.ensures) in
+    rw c.end_first_row-begun.ensures (omega (arith, e.pixels, c.loop-o.invariant.within, c.args.f.few))
 
 -- the walk's orders are not too many to count one more
 pub overflow_add-orders : goal.overflow_add-orders
-overflow_add-orders c = omega (arith, c.loop-head.invariant.counted, c.loop-head.invariant.within, c.requires.1)
+overflow_add-orders c = omega (arith, c.loop-o.invariant.counted, c.loop-o.invariant.within, c.args.f.few)
 
 pub returns-then-n-orders : goal.returns-then-n-orders
 returns-then-n-orders c =
-    let at = rw c.in-Some.is at c.in-Ok.ensures in
-    rw (c.stopped-then-n-orders.ensures, c.still_first_row.ensures, c.leaves_insert.ensures)
-    (walked_order c.loop-head.invariant (order-completed c.args.f _ c.loop-head.walk c.loop-head.invariant.within at c.order-p.result (rw (c.room.ensures.0, c.room.ensures.1) at c.order-p.ensures) c.in_default-ending.is) c.if-n-orders.true _
-    (λ k. rw (c.record_at-r.ensures, c.insert_kept-insert.ensures, c.still_first_row.ensures) (record_walked c.args.f _ c.loop-head.walk c.loop-head.invariant.within at c.order-p.result (rw (c.room.ensures.0, c.room.ensures.1) at c.order-p.ensures) k)))
+    let at = rw c.in-Ok-Some.field-0-is at c.in-Ok-Some.ensures in
+    rw (c.stopped-then-n-orders.ensures, c.end_first_row-begun.ensures, c.leaves_insert.ensures)
+    (walked_order c.loop-o.invariant (order-completed c.args.f _ c.loop-o.walk c.loop-o.invariant.within at c.order-p.result (rw (c.room.ensures.0, c.room.ensures.1) at c.order-p.ensures) c.in_default.is) c.if-n-orders.true _
+    (λ k. rw (c.new-r.ensures, c.end_first_row-begun.ensures) (record_walked c.args.f _ c.loop-o.walk c.loop-o.invariant.within at c.order-p.result (rw (c.room.ensures.0, c.room.ensures.1) at c.order-p.ensures) k)))
 
-pub loop-head-smaller : goal.loop-head-smaller
-loop-head-smaller c =
-    let at = rw c.in-Some.is at c.in-Ok.ensures in
-    let e = enough c.args.f _ c.loop-head.walk c.loop-head.invariant.within at c.order-p.result (rw (c.room.ensures.0, c.room.ensures.1) at c.order-p.ensures) in
+pub loop-o-smaller : goal.loop-o-smaller
+loop-o-smaller c =
+    let at = rw c.in-Ok-Some.field-0-is at c.in-Ok-Some.ensures in
+    let e = enough c.args.f _ c.loop-o.walk c.loop-o.invariant.within at c.order-p.result (rw (c.room.ensures.0, c.room.ensures.1) at c.order-p.ensures) in
     omega (arith, e.read, at.reads, at.place)
 
-pub loop-head-preserved : goal.loop-head-preserved
-loop-head-preserved c =
-    let at = rw c.in-Some.is at c.in-Ok.ensures in
-    rw (c.still_first_row.ensures, c.leaves_insert.ensures)
-    (walked_on c.loop-head.invariant (order-completed c.args.f _ c.loop-head.walk c.loop-head.invariant.within at c.order-p.result (rw (c.room.ensures.0, c.room.ensures.1) at c.order-p.ensures) c.in_default-ending.is) c.if-n-orders.false)
+pub loop-o-preserved : goal.loop-o-preserved
+loop-o-preserved c =
+    let at = rw c.in-Ok-Some.field-0-is at c.in-Ok-Some.ensures in
+    rw (c.end_first_row-begun.ensures, c.leaves_insert.ensures)
+    (walked_on c.loop-o.invariant (order-completed c.args.f _ c.loop-o.walk c.loop-o.invariant.within at c.order-p.result (rw (c.room.ensures.0, c.room.ensures.1) at c.order-p.ensures) c.in_default.is) c.if-n-orders.false)

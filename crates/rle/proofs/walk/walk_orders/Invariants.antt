@@ -6,8 +6,8 @@ use Rattle.rle.specs.States.{frame_of}
 use Rattle.rle.proofs.Walks.{WalkedTo}
 use Rattle.rle.proofs.walk.walk_orders.Given as goal
 
-abbrev pub invariant-loop-head : goal.invariant-loop-head
-invariant-loop-head l = WalkedTo (frame_of l.f) l.src l.initial.walk l.n l.orders l.walk
+abbrev pub invariant-loop-o : goal.invariant-loop-o
+invariant-loop-o l = WalkedTo (frame_of l.f) l.src l.initial.walk l.n l.orders l.walk
 
-abbrev pub decreases-loop-head : goal.decreases-loop-head
-decreases-loop-head l = length l.src - l.walk.pos
+abbrev pub decreases-loop-o : goal.decreases-loop-o
+decreases-loop-o l = length l.src - l.walk.pos

@@ -7,4 +7,4 @@ use Rattle.rle.proofs.plain.paint.paint_mask.Given as goal
 
 abbrev pub invariant-loop-i : goal.invariant-loop-i
 invariant-loop-i l =
-    (l.m ≡ l.mask / 2 ^ l.i) × Painted l.d l.w (mask_ink (ink_of l.fg) (ink_of l.bg) l.mask) l.k l.i l.initial.dst l.dst
+    (l.m ≡ l.mask / 2 ^ l.i) × Painted l.span.bytes l.span.width (mask_ink (ink_of l.fg) (ink_of l.bg) l.mask) l.span.start l.i l.initial.dst l.dst

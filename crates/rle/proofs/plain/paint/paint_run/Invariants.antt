@@ -3,4 +3,4 @@ use Rattle.rle.specs.Painting.{Painted, ink_of}
 use Rattle.rle.proofs.plain.paint.paint_run.Given as goal
 
 abbrev pub invariant-loop-i : goal.invariant-loop-i
-invariant-loop-i l = Painted l.d l.w (λ _. ink_of l.ink) l.k l.i l.initial.dst l.dst
+invariant-loop-i l = Painted l.span.bytes l.span.width (λ _. ink_of l.ink) l.span.start l.i l.initial.dst l.dst

@@ -11,10 +11,10 @@ unfolding masks_for
 no_mask-requires c =
     let few : c.args.left ≤ 67108864 =
     elim c.then-n-self.branch [
-      | then-n-self-via-then-n-self w ↦ omega (arith, c.requires.left_bound w.if-n-self.true, c.requires.n_bound.0)
+      | then-n-self-via-then-n-self w ↦ omega (arith, c.requires.left_bound w.if-n-self.true, c.args.n.few)
       | then-n-self-via-else-n-self+then-left-self w ↦ omega (arith, w.if-left-self.true, c.args.self.few)
     ] in
-    (few, c.requires.n_bound.1)
+    (few, c.requires.read_bound)
 
 pub returns-then-n-self : goal.returns-then-n-self
 unfolding behind image_counts

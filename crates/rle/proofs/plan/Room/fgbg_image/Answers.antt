@@ -9,10 +9,10 @@ pub returns-then-left-size : goal.returns-then-left-size
 unfolding with_operands
 returns-then-left-size c =
     let f = c.foreground_size-size.ensures in
-    rw (image_is c.requires.image, image-counts, ← f, lt-leb _ _ c.if-left-size.true) c.too_short.ensures
+    rw (image_is c.requires, image-counts, ← f, lt-leb _ _ c.if-left-size.true) c.too_short.ensures
 
 pub returns : goal.returns
 unfolding with_operands
 returns c =
     let f = c.foreground_size-size.ensures in
-    rw (image_is c.requires.image, image-counts, ← f, le-leb _ _ c.if-left-size.false) c.image_behind.ensures
+    rw (image_is c.requires, image-counts, ← f, le-leb _ _ c.if-left-size.false) c.image_behind.ensures

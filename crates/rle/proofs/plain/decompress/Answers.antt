@@ -1,0 +1,6 @@
+-- `decompress` meets its contract: what was decoded, or the report of a refusal. Assumes nothing.
+use Rattle.rle.proofs.Calls.{unwrapped}
+use Rattle.rle.proofs.plain.decompress.Goals as goal
+
+pub returns : goal.returns
+returns c = rw (unwrapped c.decompress_by.result c.unwrap_or_else.result c.unwrap_or_else.ensures) c.decompress_by.ensures

@@ -1,0 +1,50 @@
+// What a picture's orders go by.
+ghost use Rattle.std.specs.Prelude.{◌≡◌, [], ◌∷◌, ◌≤◌};
+ghost use Rattle.picture.specs.Pixels.{OfDepth};
+
+use crate::plan::Room;
+use picture::{Depth, RleError, depth_of, picture_size};
+
+// A picture's depth, its width, and its pixels: of a known depth, and no more than a picture may have.
+#[derive(Clone, Copy)]
+pub(crate) struct Frame {
+    pub(crate) depth: Depth,
+    pub(crate) width: usize,
+    pub(crate) total: usize,
+    pub(crate) ghost low: { 1 ≤ depth.bytes },
+    pub(crate) ghost high: { depth.bytes ≤ 3 },
+    pub(crate) ghost white: { OfDepth depth.bytes depth.white },
+    pub(crate) ghost black: { depth.black ≡ 0 ∷ 0 ∷ 0 ∷ [] },
+    pub(crate) ghost wide: { 1 ≤ width },
+    pub(crate) ghost few: { total ≤ 67108864 },
+}
+
+impl Frame {
+    ghost use Rattle.std.specs.Prelude.{◌-◌};
+    ghost use Rattle.picture.specs.Sizes.{checked};
+    ghost use Rattle.rle.specs.States.{checked_in};
+
+    // The frame of a picture, or the refusal of its depth or its sizes.
+    pub(crate) fn new(width: usize, height: usize, bpp: usize) -> Result<Self, RleError>
+        ensures { checked_in result ≡ checked bpp width height }
+    {
+        let depth = depth_of(bpp).ok_or(RleError::InvalidBpp { bpp })?;
+        picture_size(width, height, bpp)?;
+        Ok(Frame {
+            depth,
+            width,
+            total: width * height,
+        })
+    }
+
+    // What the picture has left behind so many pixels.
+    pub(crate) fn room(self, pixels: usize) -> Room
+        requires { pixels ≤ self.total }
+        ensures { (result.bytes ≡ self.depth.bytes) × (result.pixels ≡ self.total - pixels) }
+    {
+        Room {
+            bytes: self.depth.bytes,
+            pixels: self.total - pixels,
+        }
+    }
+}
