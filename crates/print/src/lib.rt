@@ -42,9 +42,7 @@ impl<'a> Output<'a> {
         if self.place < self.buffer.len() {
             self.buffer[self.place] = b;
         }
-        if self.place < usize::MAX {
-            self.place += 1;
-        }
+        self.place = self.place.saturating_add(1);
     }
 
     pub fn bytes(&mut self, text: &[u8])

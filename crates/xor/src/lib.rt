@@ -1,4 +1,5 @@
 // Pixels exclusive-or the pixels a row back: long runs by blocks of 48 bytes, which hold whole pixels of one, two and three bytes.
+// Callers have the depth and the places as numbers, and every number is allowed.
 #![tactic(auto)]
 
 ghost use Rattle.std.specs.Prelude.{◌≡◌, ℕ, ◌+◌, ◌*◌, ◌%◌, ◌≤◌, ◌<◌, leb, length, get_or};
