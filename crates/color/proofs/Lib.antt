@@ -1,7 +1,8 @@
 pub mod Channels
 pub mod Whites
 pub mod Triples
-pub mod Lowest
+pub mod Formats
+mod Lowest
 pub mod Every
 pub mod Bytes
 pub mod Valid
