@@ -2,7 +2,7 @@ pub mod Channels
 pub mod Whites
 pub mod Triples
 pub mod Formats
-mod Lowest
+pub mod Lowest
 pub mod Every
 pub mod Bytes
 pub mod Valid

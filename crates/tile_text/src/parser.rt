@@ -56,7 +56,7 @@ fn decimal_value(b: u8) -> Option<u8>
     }
 }
 
-// The value of a lower-case hexadecimal digit.
+// The value of a lower-case hexadecimal digit. `to_digit(16)` takes upper case too.
 #[tactic(auto, unfolding(crate::specs::Parse::digit_among, crate::specs::Parse::hex_value))]
 fn hex_value(b: u8) -> Option<u8>
     ensures value { result ≡ parse.hex_value b }
@@ -193,6 +193,7 @@ impl Parser {
     }
 }
 
+// By hand: the derived one has no contract, and an array of 8,192 bytes has no Default.
 impl Default for Parser {
     ghost is_default = { λ p. p ≡ parse.start (replicate 8192 0) };
 
