@@ -4,52 +4,52 @@ ghost use Rattle.color.specs.Colors.{channel, expand_word, expanded, expansion_i
 ghost use Rattle.color.specs.Promises.{ChannelValues};
 
 use crate::palette::entry_at;
-use picture::RleError;
+use picture::{RleError, RlePixelFormat, depth_of};
 
-// A channel of n values as a byte. The low bits repeat the high ones, so that the largest value gives 255.
+// A channel of N values as a byte. The low bits repeat the high ones, so that the largest value gives 255.
 #[tactic(auto, unfolding(crate::specs::Colors::channel))]
-pub(crate) fn channel_byte(n: usize, c: usize) -> u8
-    requires { ChannelValues n × (c < n) }
-    ensures { result ≡ channel n c }
+pub(crate) fn channel_byte<const N: usize>(c: usize) -> u8
+    requires { ChannelValues N × (c < N) }
+    ensures { result ≡ channel N c }
 {
-    if n == 32 {
+    if N == 32 {
         (8 * c + c / 4) as u8
     } else {
         (4 * c + c / 16) as u8
     }
 }
 
-// The color of a pixel of two bytes, whose green has n values. The channels are taken out of the two bytes one by one: as one number
+// The color of a pixel of two bytes, whose green has N values. The channels are taken out of the two bytes one by one: as one number
 // they would be read back from memory that was just written, which stalls.
-pub(crate) fn from_two_bytes(pixel: [u8; 3], n: usize) -> [u8; 3]
-    requires { ChannelValues n }
-    ensures { result ≡ expand_word n pixel }
+pub(crate) fn from_two_bytes<const N: usize>(pixel: [u8; 3]) -> [u8; 3]
+    requires { ChannelValues N }
+    ensures { result ≡ expand_word N pixel }
 {
     let [low, high, _] = pixel;
     let (low, high) = (usize::from(low), usize::from(high));
-    let upper = n / 8;
+    let upper = N / 8;
     [
-        channel_byte(32, low % 32),
-        channel_byte(n, low / 32 + high % upper * 8),
-        channel_byte(32, high / upper % 32),
+        channel_byte::<32>(low % 32),
+        channel_byte::<N>(low / 32 + high % upper * 8),
+        channel_byte::<32>(high / upper % 32),
     ]
 }
 
 // The color of a pixel of so many bits, as blue, green and red; or the refusal of the depth, or of a short palette, which is looked at for
 // 8 bits alone.
-#[tactic(auto, unfolding(crate::specs::Colors::expanded, crate::specs::Colors::color_of, crate::specs::Colors::palette_fits, picture::specs::Sizes::depth_index))]
+#[tactic(auto, unfolding(crate::specs::Colors::expanded, crate::specs::Colors::color_of, crate::specs::Colors::palette_fits))]
 pub fn expand(pixel: [u8; 3], bpp: usize, palette: &[u8]) -> Result<[u8; 3], RleError>
     ensures { expansion_in result ≡ expanded palette.now bpp pixel }
 {
-    match bpp {
-        8 if palette.len() < 768 => Err(RleError::BufferTooShort {
+    let depth = depth_of(bpp).ok_or(RleError::InvalidBpp { bpp })?;
+    match depth.format {
+        RlePixelFormat::Rgb8 if palette.len() < 768 => Err(RleError::BufferTooShort {
             needed: 768,
             given: palette.len(),
         }),
-        8 => Ok(entry_at(palette, usize::from(pixel[0]))),
-        15 => Ok(from_two_bytes(pixel, 32)),
-        16 => Ok(from_two_bytes(pixel, 64)),
-        24 => Ok(pixel),
-        _ => Err(RleError::InvalidBpp { bpp }),
+        RlePixelFormat::Rgb8 => Ok(entry_at(palette, usize::from(pixel[0]))),
+        RlePixelFormat::Rgb15 => Ok(from_two_bytes::<32>(pixel)),
+        RlePixelFormat::Rgb16 => Ok(from_two_bytes::<64>(pixel)),
+        RlePixelFormat::Rgb24 => Ok(pixel),
     }
 }

@@ -9,9 +9,9 @@ ghost use Rattle.decoder_state.specs.States.{saved_in};
 
 use picture::depth_of;
 
-// The foreground, the place in the stream, whether an insert is pending, the pixels painted, the first-row mark, the orders completed.
-// The decoder's own state (`rle`, src/state.rt) has the same fields. It is private to its crate, and this one is a value that callers keep
-// between two calls; neither crate knows the other.
+// The foreground, the place in the stream, whether an insert is pending, the pixels painted, the first-row mark, the orders completed: the
+// value that a caller keeps between two calls; nothing calls it yet. The decoder's own state (`rle`, src/state.rt) has the same fields, and
+// methods that take `rle`'s frames, plans and spans. A type has its methods in its own crate alone, and those types are not known here.
 #[derive(Clone, Copy, Debug, PartialEq, Eq)]
 pub struct State {
     pub foreground: [u8; 3],

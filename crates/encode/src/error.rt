@@ -5,12 +5,13 @@ use thiserror::Error;
 #[derive(Clone, Copy, Debug, PartialEq, Eq, Error)]
 pub enum CompressError {
     // As in decoding: the depth, the sizes, or a pixel buffer that is too short.
-    #[error("{0}")]
+    #[error(transparent)]
     Refused(RleError),
     #[error("the output is too short for the stream")]
     OutputTooShort,
 }
 
+// By hand: the derived one has no contract.
 impl From<RleError> for CompressError {
     ghost use Rattle.std.specs.Prelude.{◌≡◌};
     ghost use Rattle.encode.specs.declared.error.CompressError.TheVariants.{Refused};

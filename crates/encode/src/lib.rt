@@ -21,7 +21,7 @@ use picture::{RleError, bytes_per_pixel, picture_size};
 use pixels::Pixels;
 
 // Encodes the picture that `src` starts with into the first bytes of `dst`, and tells how many. The bytes after the stream stay; where
-// there is none, all of them.
+// there is none, all of them. Width, height and depth come one by one, as to `decompress` and from C.
 pub fn compress(
     src: &[u8],
     dst: &mut [u8],
@@ -49,7 +49,8 @@ pub fn compress(
 }
 
 // The most bytes that the stream of a picture of this depth and these sizes has: with so many, `compress` never finds the output too
-// short. 0 where there are no such pictures, in place of None: the call never fails, as the one for C which hands the number on.
+// short. 0 where there are no such pictures, in place of None: the call never fails, as the one for C which hands the number on. By
+// `match`: a closure, as for `map_or`, would need a contract of its own that says that the sum fits.
 pub fn compress_bound(width: usize, height: usize, bpp: usize) -> usize
     ensures { result ≡ bound bpp width height }
 {

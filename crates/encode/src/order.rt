@@ -16,7 +16,8 @@ pub(crate) enum Kind {
 }
 
 impl Kind {
-    // Its place in the table of orders, which stands in headers.
+    // Its place in the table of orders, which stands in headers. A function: of a cast amid `put_head` the proof has the numbers by cases,
+    // and no name for which kind it is in each.
     pub(crate) fn number(self) -> u8
         ensures { result ≡ kind_number self }
     {

@@ -7,7 +7,8 @@ use crate::pixels::{Pixels, Place};
 pub(crate) struct Orders<'a> {
     pixels: &'a Pixels<'a>,
     k: usize,
-    // The kind of the order before. At the start that of an image, after which every order may stand too.
+    // The kind of the order before. At the start that of an image, after which every order may stand too: None would be one more value
+    // that means just that.
     before: Kind,
 }
 

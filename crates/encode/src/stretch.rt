@@ -11,7 +11,7 @@ impl Pixels<'_> {
     ghost use Rattle.encoding.specs.Encode.{stretch};
     ghost use Rattle.encode.specs.Pixels.{same_as_back};
 
-    // Whole pixels in n bytes. A division by a literal is no division.
+    // Whole pixels in n bytes. The compiler makes a product or a shift of a division by a literal.
     fn whole_pixels(&self, n: usize) -> usize
         ensures { result ≡ n / self.now.bytes }
     {

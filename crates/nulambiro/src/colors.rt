@@ -41,6 +41,7 @@ pub extern "C" fn nulambiro_expand(
     *report = expansion_numbers(color::expand([low, middle, high], bpp, palette));
 }
 
+// 256, which is NULAMBIRO_NO_ENTRY, where there is none: C has no Option.
 #[unsafe(no_mangle)]
 pub extern "C" fn nulambiro_palette_look(palette: &[u8], blue: u8, green: u8, red: u8) -> usize
     ensures { result ≡ index_number (lowest_index palette.now (blue ∷ green ∷ red ∷ [])) }

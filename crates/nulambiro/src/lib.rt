@@ -1,4 +1,7 @@
-// The library for C: include/nulambiro.h declares these functions and says what they do.
+// The library for C: include/nulambiro.h declares these functions and says what they do. C's parameters are numbers, one by one.
+//
+// What C is told is arrays of numbers, which functions make, and no From: neither an array nor what it tells of is a type of this crate, and
+// their layout belongs to no other.
 #![tactic(auto)]
 
 ghost use Rattle.std.specs.Prelude.{◌≡◌, [], ◌∷◌, length};
@@ -12,8 +15,7 @@ pub mod records;
 
 use picture::Numbers;
 
-// Of these, what C is told of a refusal everywhere: its number (0: none) and its two values. Functions, and no From: an array of numbers
-// is of no crate here.
+// What C is told of a refusal in each array: its number (0: none) and its two values.
 pub(crate) fn refusal_numbers(n: Numbers) -> [u64; 3]
     ensures { result ≡ n.refusal ∷ n.first ∷ n.second ∷ [] }
 {

@@ -1,5 +1,5 @@
 // The records of a stream's orders, for C. include/nulambiro.h says what a caller needs to know.
-ghost use Rattle.std.specs.Prelude.{◌≡◌};
+ghost use Rattle.std.specs.Prelude.{◌≡◌, get_or};
 ghost use Rattle.definition.specs.Records.{records, nth};
 ghost use Rattle.rle.specs.Records.{record_in};
 ghost use Rattle.nulambiro.specs.RecordNumbers.{record_numbers, answer_numbers, walk_of, walk_numbers, MovesOn};
@@ -27,9 +27,10 @@ pub extern "C" fn nulambiro_order_record(
 }
 
 // A walk from its numbers: zeros are the start of a stream.
-pub(crate) fn walk_of(bytes: u64, pixels: u64, insert: u64, later_row: u64) -> Walk
-    ensures { result ≡ walk_of bytes pixels insert later_row }
+pub(crate) fn walk_of(walk: &[u64; 8]) -> Walk
+    ensures { result ≡ walk_of (get_or walk.now 0 0) (get_or walk.now 1 0) (get_or walk.now 2 0) (get_or walk.now 3 0) }
 {
+    let [bytes, pixels, insert, later_row, ..] = *walk;
     Walk {
         pos: bytes as usize,
         pixels: pixels as usize,
@@ -64,7 +65,7 @@ pub extern "C" fn nulambiro_next_order(
 )
     ensures { MovesOn src.now bpp width height walk.old walk.new report.new }
 {
-    let from = walk_of(walk[0], walk[1], walk[2], walk[3]);
+    let from = walk_of(walk);
     match rle::nth_order(src, width, height, bpp, from, 0) {
         Some(Found { order, walk: next }) => {
             *walk = walk_numbers(next);

@@ -3,7 +3,8 @@
 
 ghost use Rattle.rle.specs.Report.{Decompresses};
 
-// `decompress_bpp::<24>` stands for `decompress_24_bpp` of rle.rs, and so for 16, 15 and 8. At other depths it refuses.
+// `decompress_bpp::<24>` stands for `decompress_24_bpp` of rle.rs, and so for 16, 15 and 8, with their parameters. At other depths it
+// refuses.
 pub fn decompress_bpp<const BPP: usize>(
     src: &[u8],
     dst: &mut [u8],

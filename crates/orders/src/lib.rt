@@ -1,4 +1,6 @@
 // The records of a stream's completed orders: how each of them was written, without a target.
+//
+// Width, height and depth come one by one, as to `decompress` and from C.
 #![tactic(auto)]
 
 ghost use Rattle.std.specs.Prelude.{◌≡◌};

@@ -1,5 +1,5 @@
 // The plain decoder for C, as a library of its own: beside the other decoder's functions in one library it would change how those are
-// compiled. The bench times both.
+// compiled. The bench times both. C's parameters are numbers, one by one.
 #![tactic(auto)]
 
 ghost use Rattle.std.specs.Prelude.{◌≡◌, ◌++◌, ◌*◌, length, drop};

@@ -64,8 +64,9 @@ impl<'a> Records<'a> {
         ensures small { IfSome result (λ n. n < 2 ^ 32) }
         ensures left { OnSome result (length self.new.rest.now + 4 ≡ length self.old.rest.now) }
     {
-        let bytes = self.bytes(4)?;
-        Some(u32::from_le_bytes([bytes[0], bytes[1], bytes[2], bytes[3]]) as usize)
+        let (bytes, rest) = self.rest.split_first_chunk::<4>()?;
+        self.rest = rest;
+        Some(u32::from_le_bytes(*bytes) as usize)
     }
 
     fn picture(&mut self) -> Option<Picture>

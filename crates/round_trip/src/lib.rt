@@ -14,7 +14,8 @@ pub struct Trip {
     pub report: rle::Report,
 }
 
-// Encodes the picture that `src` starts with into `stream`, and decodes what was written there into `dst`.
+// Encodes the picture that `src` starts with into `stream`, and decodes what was written there into `dst`. Width, height and depth come
+// one by one, as to `decompress`.
 pub fn encode_and_decode(
     src: &[u8],
     stream: &mut [u8],

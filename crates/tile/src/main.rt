@@ -10,7 +10,7 @@ use std::io::{self, Read, Write};
 use thiserror::Error;
 use tile_text::{ANSWER_SPACE, PICTURE_LIMIT, Parser};
 
-// What stops the program before its end.
+// What stops the program before its end. It has no place for the `io::Error`: the text that it prints does not tell that.
 #[derive(Clone, Copy, Debug, Error)]
 enum Failure {
     #[error("cannot read standard input")]

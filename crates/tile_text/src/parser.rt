@@ -50,13 +50,10 @@ pub struct Parser {
 fn decimal_value(b: u8) -> Option<u8>
     ensures { result ≡ parse.decimal_value b }
 {
-    match b {
-        b'0'..=b'9' => Some(b - b'0'),
-        _ => None,
-    }
+    char::from(b).to_digit(10).map(|d| d as u8)
 }
 
-// The value of a lower-case hexadecimal digit.
+// The value of a lower-case hexadecimal digit. `to_digit(16)` takes upper case too.
 #[tactic(auto, unfolding(crate::specs::Parse::digit_among, crate::specs::Parse::hex_value))]
 fn hex_value(b: u8) -> Option<u8>
     ensures value { result ≡ parse.hex_value b }
@@ -153,7 +150,7 @@ impl Parser {
         Some(())
     }
 
-    // Reads the byte b; none where no tile text has it there, and nothing changes.
+    // Reads the byte b; none where no tile text has it there, and nothing changes. That is the one refusal here, so it needs no error value.
     #[tactic(auto, unfolding(crate::specs::Parse::next, crate::specs::Parse::in_key, crate::specs::Parse::after_key))]
     fn next(&mut self, b: u8) -> Option<()>
         ensures state { self.new ≡ unwrap_or (parse.next self.old b) self.old }
@@ -193,6 +190,7 @@ impl Parser {
     }
 }
 
+// By hand: the derived one has no contract, and an array of 8,192 bytes has no Default.
 impl Default for Parser {
     ghost is_default = { λ p. p ≡ parse.start (replicate 8192 0) };
 

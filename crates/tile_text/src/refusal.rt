@@ -11,6 +11,7 @@ pub(crate) enum Refusal {
     Decoder(RleError),
 }
 
+// By hand: a derived one has no contract.
 impl From<RleError> for Refusal {
     ghost use Rattle.std.specs.Prelude.{◌≡◌};
     ghost use Rattle.tile_text.specs.declared.refusal.Refusal.TheVariants.{Decoder};

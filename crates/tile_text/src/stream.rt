@@ -5,8 +5,9 @@ ghost use Rattle.tile_text.specs.Parse as parse;
 // The most bytes of a stream that are decoded.
 pub const STREAM_LIMIT: usize = 8192;
 
-// The stream's bytes so far: the first 8,192, and how many there are, counted up to 8,193. That is one number and no Option, since the
-// array has no place for it: `read` learns that the bytes are too many from `get`. The first digit of a byte waits in `high` for the second.
+// The stream's bytes so far: the first 8,192, and how many there are, counted up to 8,193, which says that they are too many. An array and
+// a count, since there is no heap and a Parser is a value that its callers may copy; an ArrayVec is none. The first digit of a byte waits
+// in `high` for the second.
 #[derive(Clone, Copy, Debug, PartialEq, Eq)]
 pub struct StreamBytes {
     pub bytes: [u8; STREAM_LIMIT],

@@ -3,18 +3,19 @@
 
 ghost use Rattle.rle.specs.Guarantees.{SameDecoding};
 
-// The report of the fast decoder, then that of the plain one.
+// The report of the fast decoder, then that of the plain one. Width, height and depth come one by one, as to `decompress`. The crate
+// `two_targets` has two calls too; its promise is another one, of two targets.
 pub fn decompress_both(
     src: &[u8],
-    a: &mut [u8],
-    b: &mut [u8],
+    fast: &mut [u8],
+    plain: &mut [u8],
     width: usize,
     height: usize,
     bpp: usize,
 ) -> (rle::Report, rle::Report)
-    ensures { SameDecoding src.now bpp width height a.old a.new result.0 b.old b.new result.1 }
+    ensures { SameDecoding src.now bpp width height fast.old fast.new result.0 plain.old plain.new result.1 }
 {
-    let fast = rle::decompress(src, a, width, height, bpp);
-    let plain = rle::plain::decompress(src, b, width, height, bpp);
+    let fast = rle::decompress(src, fast, width, height, bpp);
+    let plain = rle::plain::decompress(src, plain, width, height, bpp);
     (fast, plain)
 }

@@ -4,7 +4,8 @@
 ghost use Rattle.rle.specs.Report.{Decompresses};
 ghost use Rattle.rle.specs.Guarantees.{HasSpace, NoOldByte};
 
-// The reports are in the order of the targets.
+// The reports are in the order of the targets. Width, height and depth come one by one, as to `decompress`. The crate `two_decoders` has
+// two calls too; its promise is another one, of the two decoders.
 pub fn decompress_twice(
     src: &[u8],
     first: &mut [u8],

@@ -7,7 +7,7 @@ use Rattle.color.proofs.pixel.from_two_bytes.Goals as goal
 
 pub returns : goal.returns
 unfolding expand_word word
-returns c =
+returns g c =
     let low : c.from-low.result < 256 = omega arith in
     let high : c.from-high.result < 256 = omega arith in
     rw (c.channel_byte.ensures, c.channel_byte-2.ensures, c.channel_byte-3.ensures, ← c.from-low.ensures, ← c.from-high.ensures)
