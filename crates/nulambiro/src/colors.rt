@@ -96,5 +96,6 @@ pub extern "C" fn nulambiro_row_to_show(
     ensures { report.new ≡ part_numbers (part_to_show new pixels screen bpp width height row) }
 {
     let p = screen::part_to_show(new, pixels, screen, bpp, width, height, row);
-    *report = [p.source as u64, p.start as u64, p.size as u64, 0, 0, 0, 0, 0];
+    let (source, start, size) = (p.source as u64, p.start as u64, p.size as u64);
+    *report = [source, start, size, 0, 0, 0, 0, 0];
 }
