@@ -5,7 +5,7 @@ use mathlib.Core.Bool.{Bool, true, false}
 use mathlib.Core.Logic.{◌⊎◌, inl, inr}
 use Rattle.rle.specs.declared.kind.Kind.{Kind as CodeKind}
 use Rattle.rle.specs.declared.kind.Kind.TheVariants as kinds
-use Rattle.rle.specs.Kinds.{kind_in, sets_foreground}
+use Rattle.rle.specs.Kinds.{kind_in, sets_foreground, fixed_length}
 use Prim.Native.Nat.{ℕ, ◌+◌, ◌*◌, ◌-◌, ◌/◌, ◌%◌, ◌≤◌, ◌<◌, zero-le}
 use native.Mathlib.Nat.{add-zero, zero-add}
 use borrow.Author.Tests.{le-leb}
@@ -71,6 +71,11 @@ run_ink f s (inr e) j = rw e
 abbrev pub IsSpecial : CodeKind → Type 0
 IsSpecial k = (k ≡ kinds.SpecialFgBg1) ⊎ (k ≡ kinds.SpecialFgBg2)
 
+-- its length is the only one of its kind
+pub special_eight : {k : CodeKind} → IsSpecial k → {n : ℕ} → fixed_length k n → n ≡ 8
+special_eight (inl e) fixed = rw e at fixed
+special_eight (inr e) fixed = rw e at fixed
+
 pub special_counts : (D n a R : ℕ) {k : CodeKind} → IsSpecial k → run_counts D n R ≡ counts_of D (kind_in k) n a R
 unfolding counts_of
 special_counts D n a R (inl e) = rw e
@@ -106,6 +111,11 @@ special_ink f s (inr e) m first second j few =
 -- white, black, or no order
 abbrev pub IsPixel : CodeKind → Type 0
 IsPixel k = (k ≡ kinds.White) ⊎ ((k ≡ kinds.Black) ⊎ (k ≡ kinds.NoOrder))
+
+pub pixel_one : {k : CodeKind} → IsPixel k → {n : ℕ} → fixed_length k n → n ≡ 1
+pixel_one (inl e) fixed = rw e at fixed
+pixel_one (inr (inl e)) fixed = rw e at fixed
+pixel_one (inr (inr e)) fixed = rw e at fixed
 
 pub pixel-leaves : (D : ℕ) (s : CodeState) (xs : List ℕ) {k : CodeKind} → IsPixel k → s ≡ with_fg s (foreground_by D (kind_in k) s.foreground xs)
 unfolding foreground_in leaves

@@ -65,9 +65,10 @@ pub(crate) fn orders_to(
                     src,
                     frame: f,
                     state: t.moved(o.next),
+                    kind: o.kind,
                     run_length: o.run_length,
                 };
-                let r = next.carry_out(dst, o.kind);
+                let r = next.carry_out(dst);
                 if r.ending.is_err() {
                     return r;
                 }

@@ -27,37 +27,36 @@ impl<'a> Order<'a> {
         s.finished(p, Kind::ColorImage)
     }
 
-    pub(crate) fn special_fgbg(self, dst: &mut [u8], kind: Kind) -> Stepped
+    pub(crate) fn special_fgbg(self, dst: &mut [u8]) -> Stepped
         requires place { HasPicture self dst.old }
-        requires eight { self.run_length.pixels ≡ 8 }
-        requires special { (kind ≡ SpecialFgBg1) ⊎ (kind ≡ SpecialFgBg2) }
-        ensures { CarriesOut self.entry (kind_in kind) dst.old dst.new result }
+        requires special { (self.kind ≡ SpecialFgBg1) ⊎ (self.kind ≡ SpecialFgBg2) }
+        ensures { CarriesOut self.entry (kind_in self.entry.kind) dst.old dst.new result }
     {
         let s = self.state;
         let p = self.frame.room(s.pixels).run(Length { pixels: 8 });
-        let masks = [special_mask(kind)];
+        let masks = [special_mask(self.kind)];
         s.span(self.frame, p.pixels)
             .paint_whole_masks(&masks, 0, dst, s.fg_ink());
-        s.finished(p, kind)
+        s.finished(p, self.kind)
     }
 
     // An fg/bg image, with or without a foreground of its own.
-    pub(crate) fn fgbg_image(self, dst: &mut [u8], kind: Kind) -> Stepped
+    pub(crate) fn fgbg_image(self, dst: &mut [u8]) -> Stepped
         requires place { HasPicture self dst.old }
-        requires image { (kind ≡ FgBgImage) ⊎ (kind ≡ SetFgBgImage) }
-        ensures { CarriesOut self.entry (kind_in kind) dst.old dst.new result }
+        requires image { (self.kind ≡ FgBgImage) ⊎ (self.kind ≡ SetFgBgImage) }
+        ensures { CarriesOut self.entry (kind_in self.entry.kind) dst.old dst.new result }
     {
         let s = self.state;
         let left = self.src.len() - s.pos;
         let p = self
             .frame
             .room(s.pixels)
-            .fgbg_image(kind, self.run_length, left);
-        let t = self.with_foreground(kind);
-        let masks = s.pos + foreground_size(self.frame.depth.bytes, kind);
+            .fgbg_image(self.kind, self.run_length, left);
+        let t = self.with_foreground();
+        let masks = s.pos + foreground_size(self.frame.depth.bytes, self.kind);
         s.span(self.frame, p.pixels)
             .paint_masks(self.src, masks, dst, t.fg_ink());
-        t.finished(p, kind)
+        t.finished(p, self.kind)
     }
 }
 

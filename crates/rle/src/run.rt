@@ -29,20 +29,20 @@ impl<'a> Order<'a> {
 
     // A foreground run, with or without a foreground of its own. Each kind has a copy of its own, so that neither tests for the other.
     #[inline(always)]
-    pub(crate) fn fg_run(self, dst: &mut [u8], kind: Kind) -> Stepped
+    pub(crate) fn fg_run(self, dst: &mut [u8]) -> Stepped
         requires place { HasPicture self dst.old }
-        requires run { (kind ≡ FgRun) ⊎ (kind ≡ SetFgRun) }
-        ensures { CarriesOut self.entry (kind_in kind) dst.old dst.new result }
+        requires run { (self.kind ≡ FgRun) ⊎ (self.kind ≡ SetFgRun) }
+        ensures { CarriesOut self.entry (kind_in self.entry.kind) dst.old dst.new result }
     {
         let s = self.state;
         let left = self.src.len() - s.pos;
         let p = self
             .frame
             .room(s.pixels)
-            .fg_run(kind, self.run_length, left);
-        let t = self.with_foreground(kind);
+            .fg_run(self.kind, self.run_length, left);
+        let t = self.with_foreground();
         s.span(self.frame, p.pixels).paint_fg_run(dst, t.fg_ink());
-        t.finished(p, kind)
+        t.finished(p, self.kind)
     }
 
     pub(crate) fn color_run(self, dst: &mut [u8]) -> Stepped
@@ -82,20 +82,19 @@ impl<'a> Order<'a> {
     }
 
     // One white or black pixel, or no order. One function for them: as arms of a jump they would be mispredicted half the time.
-    pub(crate) fn one_pixel(self, dst: &mut [u8], kind: Kind) -> Stepped
+    pub(crate) fn one_pixel(self, dst: &mut [u8]) -> Stepped
         requires place { HasPicture self dst.old }
-        requires one { self.run_length.pixels ≡ 1 }
-        requires pixel { (kind ≡ White) ⊎ ((kind ≡ Black) ⊎ (kind ≡ NoOrder)) }
-        ensures { CarriesOut self.entry (kind_in kind) dst.old dst.new result }
+        requires pixel { (self.kind ≡ White) ⊎ ((self.kind ≡ Black) ⊎ (self.kind ≡ NoOrder)) }
+        ensures { CarriesOut self.entry (kind_in self.entry.kind) dst.old dst.new result }
     {
         let s = self.state;
-        let p = self.frame.room(s.pixels).pixel(kind);
+        let p = self.frame.room(s.pixels).pixel(self.kind);
         if p.pixels == 0 {
-            return s.finished(p, kind);
+            return s.finished(p, self.kind);
         }
         s.span(self.frame, p.pixels)
-            .paint_pixel(dst, 0, Ink::Solid(white_or_black(self.frame, kind)));
-        s.finished(p, kind)
+            .paint_pixel(dst, 0, Ink::Solid(white_or_black(self.frame, self.kind)));
+        s.finished(p, self.kind)
     }
 }
 

@@ -39,9 +39,10 @@ impl Decoder for Plain {
                         src,
                         frame: f,
                         state: t,
+                        kind: o.kind,
                         run_length: o.run_length,
                     };
-                    let r = order(dst, next, o.kind);
+                    let r = order(dst, next);
                     if r.ending.is_err() {
                         return r;
                     }
