@@ -198,15 +198,13 @@ inserted-painted {s} is some fg bg first rest =
 -- ---- masks and turns
 
 -- a mask's pixels, then those of the masks behind it
-pub image_later : (fg bg : Ink) (src : List ℕ) (from m j : ℕ) → image_ink fg bg (drop (from + m) src) j ≡ image_ink fg bg (drop from src) (m * 8 + j)
+pub image_later : (fg bg : Ink) (src : List ℕ) (m j : ℕ) → image_ink fg bg (drop m src) j ≡ image_ink fg bg src (m * 8 + j)
 unfolding image_ink
-image_later fg bg src from m j =
+image_later fg bg src m j =
     let q : m + j / 8 ≡ (m * 8 + j) / 8 = omega arith in
     let r : j % 8 ≡ (m * 8 + j) % 8 = omega arith in
     let mask =
-    get_or-drop (from + m) src (j / 8) 0
-    ∙ ap (λ (i : ℕ). get_or src i 0) (add_assoc from m (j / 8) ∙ ap (λ (i : ℕ). from + i) q)
-    ∙ sym (get_or-drop from src ((m * 8 + j) / 8) 0) in
+    get_or-drop m src (j / 8) 0 ∙ ap (λ (i : ℕ). get_or src i 0) q in
     λ t. mask_ink fg bg (mask t) (r t)
 
 -- a mask's bits, one after the other
@@ -215,13 +213,13 @@ unfolding mask_ink
 mask_ink_lem fg bg m a i e = rw e
 
 -- a mask's pixels in an image of many: the image's pixel i is the mask's first
-pub mask_in_image : (fg bg : Ink) (src : List ℕ) (from i j : ℕ) → i % 8 ≡ 0 → j < 8
-    → mask_ink fg bg (get_or src (from + i / 8) 0) j ≡ image_ink fg bg (drop from src) (i + j)
+pub mask_in_image : (fg bg : Ink) (src : List ℕ) (i j : ℕ) → i % 8 ≡ 0 → j < 8
+    → mask_ink fg bg (get_or src (i / 8) 0) j ≡ image_ink fg bg src (i + j)
 unfolding image_ink
-mask_in_image fg bg src from i j whole few =
+mask_in_image fg bg src i j whole few =
     let q : (i + j) / 8 ≡ i / 8 = omega arith in
     let r : (i + j) % 8 ≡ j = omega arith in
-    rw (q, r, get_or-drop)
+    rw (q, r)
 
 pub turn-pixel : (D : ℕ) (a b : Pixel) (t : Bool) → OfDepth D a → OfDepth D b → OfDepth D (pick t a b)
 turn-pixel D a b true p q = p
@@ -233,10 +231,9 @@ pub dither_solid : {p : Pixel} (a b : Pixel) (j : ℕ) → p ≡ pick (eqb (j % 
 unfolding dither_ink
 dither_solid a b j e = ap solid e
 
-pub image-solid : {p : Pixel} (D : ℕ) (src : List ℕ) (a j : ℕ) → p ≡ first_pixel D (drop (a + j * D) src)
-    → solid p ≡ solid (pixel_at D (drop a src) j)
+pub image-solid : {p : Pixel} (D : ℕ) (src : List ℕ) (j : ℕ) → p ≡ first_pixel D (drop (j * D) src) → solid p ≡ solid (pixel_at D src j)
 unfolding pixel_at
-image-solid D src a j e = ap solid (e ∙ ap (λ (l : List ℕ). first_pixel D l) (sym (drop-drop (j * D) a src)))
+image-solid D src j e = ap solid e
 
 pub image-fits : (D n j : ℕ) → j < n → j * D + D ≤ n * D
 image-fits D n j h = omega (arith, mul-le-mul_right {m = j + 1} {n = n} D (omega arith))

@@ -23,7 +23,7 @@ impl<'a> Order<'a> {
             return s.finished(p, Kind::ColorImage);
         }
         s.span(self.frame, p.pixels)
-            .paint_image(self.src, s.pos, dst);
+            .paint_image(&self.src[s.pos..], dst);
         s.finished(p, Kind::ColorImage)
     }
 
@@ -36,7 +36,7 @@ impl<'a> Order<'a> {
         let p = self.frame.room(s.pixels).run(Length { pixels: 8 });
         let masks = [special_mask(self.kind)];
         s.span(self.frame, p.pixels)
-            .paint_whole_masks(&masks, 0, dst, s.fg_ink());
+            .paint_whole_masks(&masks, dst, s.fg_ink());
         s.finished(p, self.kind)
     }
 
@@ -53,9 +53,12 @@ impl<'a> Order<'a> {
             .room(s.pixels)
             .fgbg_image(self.kind, self.run_length, left);
         let t = self.with_foreground();
-        let masks = s.pos + foreground_size(self.frame.depth.bytes, self.kind);
+        if p.pixels == 0 {
+            return t.finished(p, self.kind);
+        }
+        let from = s.pos + foreground_size(self.frame.depth.bytes, self.kind);
         s.span(self.frame, p.pixels)
-            .paint_masks(self.src, masks, dst, t.fg_ink());
+            .paint_masks(&self.src[from..], dst, t.fg_ink());
         t.finished(p, self.kind)
     }
 }

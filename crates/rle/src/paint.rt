@@ -39,12 +39,11 @@ pub(crate) fn xor_rows(dst: &mut [u8], d: usize, at: usize, n: usize, row: usize
     xor_back(&mut dst[from..end], d, row, n, row, p);
 }
 
-// 8 * m pixels of d bytes from dst[at] on, by the masks from src[from] on, in the first row where `back` is none. It stays a call, since it
+// 8 * m pixels of d bytes from dst[at] on, by the masks that src begins with, in the first row where `back` is none. It stays a call, since it
 // has two callers, and takes numbers: as a call that hands span and ink over, 16 pixels of one byte took 228 instructions in place of 205.
 #[inline(never)]
 pub(crate) fn mask_rows(
     src: &[u8],
-    from: usize,
     dst: &mut [u8],
     d: usize,
     at: usize,
@@ -53,24 +52,14 @@ pub(crate) fn mask_rows(
     p: [u8; 3],
 )
     requires depth { (1 ≤ d) × (d ≤ 3) }
-    requires fits { (from + m ≤ length src.now) × (at + m * 8 * d ≤ length dst.old) }
+    requires fits { (m ≤ length src.now) × (at + m * 8 * d ≤ length dst.old) }
     requires back { row_there back at ≡ true }
-    ensures { dst.new ≡ run (row_bytes back at (masked_by src.now from d p)) at (m * 8 * d) dst.old }
+    ensures { dst.new ≡ run (row_bytes back at (masked_by src.now 0 d p)) at (m * 8 * d) dst.old }
 {
     let row = back.unwrap_or(0);
     let start = at - row;
     let end = at + m * 8 * d;
-    let last = from + m;
-    masks(
-        &src[from..last],
-        0,
-        &mut dst[start..end],
-        d,
-        row,
-        back,
-        m,
-        p,
-    );
+    masks(&src[..m], 0, &mut dst[start..end], d, row, back, m, p);
 }
 
 impl Span {
@@ -215,59 +204,48 @@ impl Span {
         }
     }
 
-    // By whole masks, those from src[from] on: where a bit is 1 with the ink, where it is 0 with what the ink is without its color.
+    // By whole masks, those that src begins with: where a bit is 1 with the ink, where it is 0 with what the ink is without its color.
     #[inline(always)]
-    pub(crate) fn paint_whole_masks(self, src: &[u8], from: usize, dst: &mut [u8], ink: Ink)
+    pub(crate) fn paint_whole_masks(self, src: &[u8], dst: &mut [u8], ink: Ink)
         requires place { HasPlace self dst.old }
         requires paintable { Paintable self ink × HasColor ink }
-        requires masks { (self.pixels % 8 ≡ 0) × (from + self.pixels / 8 ≤ length src.now) }
-        ensures { Paints self (image_ink (ink_of ink) (zero_ink ink) (drop from src.now)) dst.old dst.new }
+        requires masks { (self.pixels % 8 ≡ 0) × (self.pixels / 8 ≤ length src.now) }
+        ensures { Paints self (image_ink (ink_of ink) (zero_ink ink) src.now) dst.old dst.new }
     {
         let d = self.bytes;
         let (back, p) = self.back_and_color(ink);
-        mask_rows(src, from, dst, d, self.start * d, self.pixels / 8, back, p);
+        mask_rows(src, dst, d, self.start * d, self.pixels / 8, back, p);
     }
 
-    // By one mask, src[from], of which it has eight pixels at most. Here the whole target is lent: for so few pixels a part would take
+    // By one mask, the first of src, of which it has eight pixels at most. Here the whole target is lent: for so few pixels a part would take
     // longer than its tests.
-    pub(crate) fn paint_mask_part(self, src: &[u8], from: usize, dst: &mut [u8], ink: Ink)
+    pub(crate) fn paint_mask_part(self, src: &[u8], dst: &mut [u8], ink: Ink)
         requires place { HasPlace self dst.old }
         requires paintable { Paintable self ink × HasColor ink }
-        requires mask { (self.pixels ≤ 8) × (from < length src.now) }
-        ensures { Paints self (image_ink (ink_of ink) (zero_ink ink) (drop from src.now)) dst.old dst.new }
+        requires mask { (self.pixels ≤ 8) × (0 < length src.now) }
+        ensures { Paints self (image_ink (ink_of ink) (zero_ink ink) src.now) dst.old dst.new }
     {
         let d = self.bytes;
         let (back, p) = self.back_and_color(ink);
-        let last = from + 1;
-        mask_part(
-            &src[from..last],
-            0,
-            dst,
-            d,
-            self.start * d,
-            back,
-            self.pixels,
-            p,
-        );
+        mask_part(&src[..1], 0, dst, d, self.start * d, back, self.pixels, p);
     }
 
-    // Eight pixels to a mask, by the masks from src[from] on.
-    pub(crate) fn paint_masks(self, src: &[u8], from: usize, dst: &mut [u8], ink: Ink)
+    // Eight pixels to a mask, by the masks that src begins with.
+    pub(crate) fn paint_masks(self, src: &[u8], dst: &mut [u8], ink: Ink)
         requires place { HasPlace self dst.old }
         requires paintable { Paintable self ink × HasColor ink }
-        requires masks { self.pixels ≤ (length src.now - from) * 8 }
-        ensures { Paints self (image_ink (ink_of ink) (zero_ink ink) (drop from src.now)) dst.old dst.new }
+        requires masks { self.pixels ≤ length src.now * 8 }
+        ensures { Paints self (image_ink (ink_of ink) (zero_ink ink) src.now) dst.old dst.new }
     {
         let m = self.pixels / 8;
         if 0 < m {
-            self.part(0, m * 8).paint_whole_masks(src, from, dst, ink);
+            self.part(0, m * 8).paint_whole_masks(src, dst, ink);
         }
         let rest = self.pixels % 8;
         if rest == 0 {
             return;
         }
-        self.part(m * 8, rest)
-            .paint_mask_part(src, from + m, dst, ink);
+        self.part(m * 8, rest).paint_mask_part(&src[m..], dst, ink);
     }
 
     // An even number of pixels, a and b by turns.
@@ -283,16 +261,15 @@ impl Span {
         fill_pairs(&mut dst[at..end], d, 0, self.pixels / 2, a, b);
     }
 
-    // With the pixels of the stream from src[pos] on.
-    pub(crate) fn paint_image(self, src: &[u8], pos: usize, dst: &mut [u8])
+    // With the pixels that src begins with.
+    pub(crate) fn paint_image(self, src: &[u8], dst: &mut [u8])
         requires place { HasPlace self dst.old }
-        requires operands { pos + self.pixels * self.bytes ≤ length src.now }
-        ensures { Paints self (λ j. decode.Ink.solid (pixel_at self.bytes (drop pos src.now) j)) dst.old dst.new }
+        requires operands { self.pixels * self.bytes ≤ length src.now }
+        ensures { Paints self (λ j. decode.Ink.solid (pixel_at self.bytes src.now j)) dst.old dst.new }
     {
         let len = self.pixels * self.bytes;
-        let last = pos + len;
         let at = self.start * self.bytes;
         let end = at + len;
-        copy_in(&src[pos..last], 0, &mut dst[at..end], 0, len);
+        copy_in(&src[..len], 0, &mut dst[at..end], 0, len);
     }
 }

@@ -31,25 +31,17 @@ pub(crate) fn bg_run_beside(a: &mut [u8], b: &mut [u8], span: Span, insert: Opti
     plain::paint_bg_run(b, span, insert, bg);
 }
 
-// The masks from src[from] on.
-pub(crate) fn masks_beside(
-    src: &[u8],
-    from: usize,
-    a: &mut [u8],
-    b: &mut [u8],
-    span: Span,
-    fg: Ink,
-    bg: Ink,
-)
+// The masks that src begins with.
+pub(crate) fn masks_beside(src: &[u8], a: &mut [u8], b: &mut [u8], span: Span, fg: Ink, bg: Ink)
     requires place { HasPlace span a.old }
     requires fg { Paintable span fg × HasColor fg }
     requires bg { Paintable span bg × (ink_of bg ≡ zero_ink fg) }
-    requires masks { span.pixels ≤ (length src.now - from) * 8 }
+    requires masks { span.pixels ≤ length src.now * 8 }
     requires same { a.old ≡ b.old }
     ensures { a.new ≡ b.new }
 {
-    span.paint_masks(src, from, a, fg);
-    plain::paint_masks(src, from, b, span, fg, bg);
+    span.paint_masks(src, a, fg);
+    plain::paint_masks(src, b, span, fg, bg);
 }
 
 // Two colors by turns.
@@ -64,13 +56,13 @@ pub(crate) fn dithered_beside(a: &mut [u8], b: &mut [u8], span: Span, p: [u8; 3]
     plain::paint_dithered(b, span, p, q);
 }
 
-// The pixels of the stream from src[pos] on.
-pub(crate) fn image_beside(src: &[u8], pos: usize, a: &mut [u8], b: &mut [u8], span: Span)
+// The pixels that src begins with.
+pub(crate) fn image_beside(src: &[u8], a: &mut [u8], b: &mut [u8], span: Span)
     requires place { HasPlace span a.old }
-    requires operands { pos + span.pixels * span.bytes ≤ length src.now }
+    requires operands { span.pixels * span.bytes ≤ length src.now }
     requires same { a.old ≡ b.old }
     ensures { a.new ≡ b.new }
 {
-    span.paint_image(src, pos, a);
-    plain::paint_image(src, pos, b, span);
+    span.paint_image(src, a);
+    plain::paint_image(src, b, span);
 }

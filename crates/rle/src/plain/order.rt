@@ -72,13 +72,14 @@ pub(crate) fn paint_order(dst: &mut [u8], o: Order<'_>, n: usize)
         Kind::BgRun => paint_bg_run(dst, span, o.state.insert.then_some(fg), bg),
         Kind::FgRun | Kind::SetFgRun => paint_run(dst, span, fg),
         Kind::FgBgImage | Kind::SetFgBgImage => {
-            paint_masks(src, pos + foreground_size(d, o.kind), dst, span, fg, bg)
+            let from = pos + foreground_size(d, o.kind);
+            paint_masks(&src[from..], dst, span, fg, bg)
         }
         Kind::SpecialFgBg1 | Kind::SpecialFgBg2 => {
             paint_mask(dst, span, special_mask(o.kind), fg, bg)
         }
         Kind::ColorRun => paint_run(dst, span, Ink::Solid(read_pixel(src, d, pos))),
-        Kind::ColorImage => paint_image(src, pos, dst, span),
+        Kind::ColorImage => paint_image(&src[pos..], dst, span),
         Kind::DitheredRun => {
             let a = read_pixel(src, d, pos);
             let b = read_pixel(src, d, pos + d);

@@ -49,21 +49,21 @@ pub(crate) fn paint_mask(dst: &mut [u8], span: Span, mask: u8, fg: Ink, bg: Ink)
     for i in 0..span.pixels {
         let ink = if m % 2 == 1 { fg } else { bg };
         span.paint_pixel(dst, i, ink);
-        m = m / 2;
+        m /= 2;
     }
 }
 
-// Eight pixels to a mask, by the masks from src[from] on.
-pub(crate) fn paint_masks(src: &[u8], from: usize, dst: &mut [u8], span: Span, fg: Ink, bg: Ink)
+// Eight pixels to a mask, by the masks that src begins with.
+pub(crate) fn paint_masks(src: &[u8], dst: &mut [u8], span: Span, fg: Ink, bg: Ink)
     requires place { HasPlace span dst.old }
     requires fg { Paintable span fg }
     requires bg { Paintable span bg }
-    requires masks { span.pixels ≤ (length src.now - from) * 8 }
-    ensures { Paints span (image_ink (ink_of fg) (ink_of bg) (drop from src.now)) dst.old dst.new }
+    requires masks { span.pixels ≤ length src.now * 8 }
+    ensures { Paints span (image_ink (ink_of fg) (ink_of bg) src.now) dst.old dst.new }
 {
     for i in (0..span.pixels).step_by(8) {
         let eight = span.part(i, (span.pixels - i).min(8));
-        paint_mask(dst, eight, src[from + i / 8], fg, bg);
+        paint_mask(dst, eight, src[i / 8], fg, bg);
     }
 }
 
@@ -89,15 +89,15 @@ pub(crate) fn paint_dithered(dst: &mut [u8], span: Span, a: [u8; 3], b: [u8; 3])
     }
 }
 
-// With the pixels of the stream from src[pos] on.
-pub(crate) fn paint_image(src: &[u8], pos: usize, dst: &mut [u8], span: Span)
+// With the pixels that src begins with.
+pub(crate) fn paint_image(src: &[u8], dst: &mut [u8], span: Span)
     requires place { HasPlace span dst.old }
-    requires operands { pos + span.pixels * span.bytes ≤ length src.now }
-    ensures { Paints span (λ j. decode.Ink.solid (pixel_at span.bytes (drop pos src.now) j)) dst.old dst.new }
+    requires operands { span.pixels * span.bytes ≤ length src.now }
+    ensures { Paints span (λ j. decode.Ink.solid (pixel_at span.bytes src.now j)) dst.old dst.new }
 {
     let d = span.bytes;
     for i in 0..span.pixels {
-        let p = read_pixel(src, d, pos + i * d);
+        let p = read_pixel(src, d, i * d);
         write_pixel(dst, d, (span.start + i) * d, p);
     }
 }

@@ -1,5 +1,6 @@
 -- `paint_order` meets its contract: each arm paints with the ink of its kinds. Assumes nothing.
 use lib.Seq.{drop-drop}
+use Rattle.std.proofs.lemmas.List.{take_rest}
 use Rattle.definition.specs.Plan.{kind_ink}
 use Rattle.picture.proofs.Pixels.{zeros_of_depth}
 use Rattle.rle.proofs.Painting.{painted-zero, painted_as, read_of_depth}
@@ -53,7 +54,7 @@ returns-in-FgRun c = fg-painted _ _ _ _ c.in-FgRun.is _ (rw c.row_inks-fg.ensure
 pub returns-in-FgBgImage : goal.returns-in-FgBgImage
 returns-in-FgBgImage c =
     masks-painted _ _ _ _ c.in-FgBgImage.is _ _
-    (rw (c.row_inks-fg.ensures.0, c.row_inks-fg.ensures.1, c.foreground_size.ensures) at c.paint_masks.ensures)
+    (rw (c.row_inks-fg.ensures.0, c.row_inks-fg.ensures.1, take_rest, c.foreground_size.ensures) at c.paint_masks.ensures)
 
 pub returns-in-SpecialFgBg1 : goal.returns-in-SpecialFgBg1
 returns-in-SpecialFgBg1 c =
@@ -66,7 +67,7 @@ returns-in-ColorRun c = rw c.in-ColorRun.is (rw c.read_pixel.ensures at c.paint_
 
 pub returns-in-ColorImage : goal.returns-in-ColorImage
 unfolding kind_ink
-returns-in-ColorImage c = rw c.in-ColorImage.is c.paint_image.ensures
+returns-in-ColorImage c = rw c.in-ColorImage.is (rw take_rest at c.paint_image.ensures)
 
 pub returns-in-DitheredRun : goal.returns-in-DitheredRun
 unfolding kind_ink
