@@ -213,13 +213,13 @@ unfolding mask_ink
 mask_ink_lem fg bg m a i e = rw e
 
 -- a mask's pixels in an image of many: the image's pixel i is the mask's first
-pub mask_in_image : (fg bg : Ink) (src : List ℕ) (i j : ℕ) → i % 8 ≡ 0 → j < 8
-    → mask_ink fg bg (get_or src (i / 8) 0) j ≡ image_ink fg bg src (i + j)
+pub mask_in_image : (fg bg : Ink) (src : List ℕ) (from i j : ℕ) → i % 8 ≡ 0 → j < 8
+    → mask_ink fg bg (get_or src (from + i / 8) 0) j ≡ image_ink fg bg (drop from src) (i + j)
 unfolding image_ink
-mask_in_image fg bg src i j whole few =
+mask_in_image fg bg src from i j whole few =
     let q : (i + j) / 8 ≡ i / 8 = omega arith in
     let r : (i + j) % 8 ≡ j = omega arith in
-    rw (q, r)
+    rw (q, r, get_or-drop)
 
 pub turn-pixel : (D : ℕ) (a b : Pixel) (t : Bool) → OfDepth D a → OfDepth D b → OfDepth D (pick t a b)
 turn-pixel D a b true p q = p

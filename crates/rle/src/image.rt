@@ -53,12 +53,9 @@ impl<'a> Order<'a> {
             .room(s.pixels)
             .fgbg_image(self.kind, self.run_length, left);
         let t = self.with_foreground();
-        if p.pixels == 0 {
-            return t.finished(p, self.kind);
-        }
         let from = s.pos + foreground_size(self.frame.depth.bytes, self.kind);
         s.span(self.frame, p.pixels)
-            .paint_masks(&self.src[from..], dst, t.fg_ink());
+            .paint_masks(self.src, from, dst, t.fg_ink());
         t.finished(p, self.kind)
     }
 }

@@ -230,22 +230,25 @@ impl Span {
         mask_part(&src[..1], 0, dst, d, self.start * d, back, self.pixels, p);
     }
 
-    // Eight pixels to a mask, by the masks that src begins with.
-    pub(crate) fn paint_masks(self, src: &[u8], dst: &mut [u8], ink: Ink)
+    // Eight pixels to a mask, by the masks from src[from] on.
+    pub(crate) fn paint_masks(self, src: &[u8], from: usize, dst: &mut [u8], ink: Ink)
         requires place { HasPlace self dst.old }
         requires paintable { Paintable self ink × HasColor ink }
-        requires masks { self.pixels ≤ length src.now * 8 }
-        ensures { Paints self (image_ink (ink_of ink) (zero_ink ink) src.now) dst.old dst.new }
+        requires masks { self.pixels ≤ (length src.now - from) * 8 }
+        ensures { Paints self (image_ink (ink_of ink) (zero_ink ink) (drop from src.now)) dst.old dst.new }
     {
         let m = self.pixels / 8;
         if 0 < m {
-            self.part(0, m * 8).paint_whole_masks(src, dst, ink);
+            self.part(0, m * 8)
+                .paint_whole_masks(&src[from..], dst, ink);
         }
         let rest = self.pixels % 8;
         if rest == 0 {
             return;
         }
-        self.part(m * 8, rest).paint_mask_part(&src[m..], dst, ink);
+        let last = from + m;
+        self.part(m * 8, rest)
+            .paint_mask_part(&src[last..], dst, ink);
     }
 
     // An even number of pixels, a and b by turns.

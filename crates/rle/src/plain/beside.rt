@@ -31,17 +31,25 @@ pub(crate) fn bg_run_beside(a: &mut [u8], b: &mut [u8], span: Span, insert: Opti
     plain::paint_bg_run(b, span, insert, bg);
 }
 
-// The masks that src begins with.
-pub(crate) fn masks_beside(src: &[u8], a: &mut [u8], b: &mut [u8], span: Span, fg: Ink, bg: Ink)
+// The masks from src[from] on.
+pub(crate) fn masks_beside(
+    src: &[u8],
+    from: usize,
+    a: &mut [u8],
+    b: &mut [u8],
+    span: Span,
+    fg: Ink,
+    bg: Ink,
+)
     requires place { HasPlace span a.old }
     requires fg { Paintable span fg × HasColor fg }
     requires bg { Paintable span bg × (ink_of bg ≡ zero_ink fg) }
-    requires masks { span.pixels ≤ length src.now * 8 }
+    requires masks { span.pixels ≤ (length src.now - from) * 8 }
     requires same { a.old ≡ b.old }
     ensures { a.new ≡ b.new }
 {
-    span.paint_masks(src, a, fg);
-    plain::paint_masks(src, b, span, fg, bg);
+    span.paint_masks(src, from, a, fg);
+    plain::paint_masks(src, from, b, span, fg, bg);
 }
 
 // Two colors by turns.

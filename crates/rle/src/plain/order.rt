@@ -72,8 +72,7 @@ pub(crate) fn paint_order(dst: &mut [u8], o: Order<'_>, n: usize)
         Kind::BgRun => paint_bg_run(dst, span, o.state.insert.then_some(fg), bg),
         Kind::FgRun | Kind::SetFgRun => paint_run(dst, span, fg),
         Kind::FgBgImage | Kind::SetFgBgImage => {
-            let from = pos + foreground_size(d, o.kind);
-            paint_masks(&src[from..], dst, span, fg, bg)
+            paint_masks(src, pos + foreground_size(d, o.kind), dst, span, fg, bg)
         }
         Kind::SpecialFgBg1 | Kind::SpecialFgBg2 => {
             paint_mask(dst, span, special_mask(o.kind), fg, bg)

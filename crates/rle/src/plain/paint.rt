@@ -53,17 +53,17 @@ pub(crate) fn paint_mask(dst: &mut [u8], span: Span, mask: u8, fg: Ink, bg: Ink)
     }
 }
 
-// Eight pixels to a mask, by the masks that src begins with.
-pub(crate) fn paint_masks(src: &[u8], dst: &mut [u8], span: Span, fg: Ink, bg: Ink)
+// Eight pixels to a mask, by the masks from src[from] on.
+pub(crate) fn paint_masks(src: &[u8], from: usize, dst: &mut [u8], span: Span, fg: Ink, bg: Ink)
     requires place { HasPlace span dst.old }
     requires fg { Paintable span fg }
     requires bg { Paintable span bg }
-    requires masks { span.pixels ≤ length src.now * 8 }
-    ensures { Paints span (image_ink (ink_of fg) (ink_of bg) src.now) dst.old dst.new }
+    requires masks { span.pixels ≤ (length src.now - from) * 8 }
+    ensures { Paints span (image_ink (ink_of fg) (ink_of bg) (drop from src.now)) dst.old dst.new }
 {
     for i in (0..span.pixels).step_by(8) {
         let eight = span.part(i, (span.pixels - i).min(8));
-        paint_mask(dst, eight, src[i / 8], fg, bg);
+        paint_mask(dst, eight, src[from + i / 8], fg, bg);
     }
 }
 

@@ -1,12 +1,9 @@
 -- `fgbg_image` meets its contract: the pixels that the plan says are painted, and it ends as planned. Assumes nothing.
-use mathlib.Core.Path.{refl}
 use Prim.Native.Nat.{ℕ, ◌≤◌}
 use native.Mathlib.Omega.{arith}
 use Rattle.rle.specs.Kinds.{kind_in, sets_foreground}
 use Rattle.base.proofs.Tests.{by_test}
-use Rattle.std.proofs.lemmas.List.{take_rest, length-drop}
 use Rattle.rle.proofs.Numbers.{image_is}
-use Rattle.rle.proofs.Painting.{painted-zero}
 use Rattle.rle.proofs.Carried.{ready}
 use Rattle.rle.proofs.Orders.{fits, fits_with, few_behind, has_place, next-painted}
 use Rattle.rle.proofs.Sharing.{image_executes, image_paintable, image_masks}
@@ -16,26 +13,6 @@ pub overflow_add-from : goal.overflow_add-from
 overflow_add-from c =
     let few = by_test (λ (m : ℕ). m ≤ 3) (sets_foreground c.args.self.kind) {b = 0} (λ _. c.args.self.frame.high) (λ _. omega arith) in
     omega (arith, few, c.foreground_size.ensures)
-
-pub finished-requires : goal.finished-requires
-finished-requires c =
-    fits_with c.with_foreground-t.ensures (fits (ready c.args.self _ c.requires.place) _ _ c.fgbg_image-p.result (rw (c.room.ensures.0, c.room.ensures.1) at c.fgbg_image-p.ensures) (omega arith))
-
-pub slice_bounds-paint_masks-count : goal.slice_bounds-paint_masks-count
-slice_bounds-paint_masks-count c =
-    let a = c.args in
-    let k = image_is c.requires.image in
-    let masks = (image_masks a.self.frame a.self.src.now a.dst.now a.self.state (sets_foreground a.self.kind) (rw k at c.with_foreground-t.ensures) refl c.foreground_size.ensures (ready a.self _ c.requires.place)
-    c.fgbg_image-p.result (rw (c.room.ensures.0, c.room.ensures.1, k) at c.fgbg_image-p.ensures)) in
-    omega (arith, c.if-p-eq0.false, masks)
-
-pub slice_bounds-paint_masks-start : goal.slice_bounds-paint_masks-start
-slice_bounds-paint_masks-start c =
-    let a = c.args in
-    let k = image_is c.requires.image in
-    let masks = (image_masks a.self.frame a.self.src.now a.dst.now a.self.state (sets_foreground a.self.kind) (rw k at c.with_foreground-t.ensures) refl c.foreground_size.ensures (ready a.self _ c.requires.place)
-    c.fgbg_image-p.result (rw (c.room.ensures.0, c.room.ensures.1, k) at c.fgbg_image-p.ensures)) in
-    omega (arith, c.if-p-eq0.false, masks)
 
 pub span-requires : goal.span-requires
 span-requires c = few_behind c.args.self.frame c.args.dst.now (ready c.args.self _ c.requires.place) (kind_in c.args.self.kind) _ c.fgbg_image-p.result (rw (c.room.ensures.0, c.room.ensures.1) at c.fgbg_image-p.ensures)
@@ -53,23 +30,14 @@ paint_masks-requires c =
           image_paintable a.self.frame a.self.src.now a.dst.now a.self.state (sets_foreground a.self.kind) new c.fg_ink.ensures c.foreground_size.ensures (ready c.args.self _ c.requires.place)
           c.fgbg_image-p.result plans is;
       masks =
-          rw (is.pixels, take_rest, length-drop)
+          rw is.pixels
           (image_masks a.self.frame a.self.src.now a.dst.now a.self.state (sets_foreground a.self.kind) new c.fg_ink.ensures c.foreground_size.ensures (ready c.args.self _ c.requires.place)
           c.fgbg_image-p.result plans);
     }
 
-pub finished-requires-2 : goal.finished-requires-2
-finished-requires-2 c =
+pub finished-requires : goal.finished-requires
+finished-requires c =
     fits_with c.with_foreground-t.ensures (fits (ready c.args.self _ c.requires.place) _ _ c.fgbg_image-p.result (rw (c.room.ensures.0, c.room.ensures.1) at c.fgbg_image-p.ensures) (omega arith))
-
-pub returns-then-p-eq0 : goal.returns-then-p-eq0
-returns-then-p-eq0 c =
-    let a = c.args in
-    let k = image_is c.requires.image in
-    rw k
-    (image_executes a.self.frame a.self.src.now a.dst.now a.self.state (sets_foreground a.self.kind) (rw k at c.with_foreground-t.ensures) refl refl
-    (ready c.args.self _ c.requires.place) c.fgbg_image-p.result (rw (c.room.ensures.0, c.room.ensures.1, k) at c.fgbg_image-p.ensures) c.args.self.place (rw k at c.finished.ensures)
-    (painted-zero c.if-p-eq0.true))
 
 pub returns : goal.returns
 returns c =
@@ -77,5 +45,5 @@ returns c =
     let k = image_is c.requires.image in
     rw k
     (image_executes a.self.frame a.self.src.now a.dst.now a.self.state (sets_foreground a.self.kind) (rw k at c.with_foreground-t.ensures) c.fg_ink.ensures c.foreground_size.ensures
-    (ready c.args.self _ c.requires.place) c.fgbg_image-p.result (rw (c.room.ensures.0, c.room.ensures.1, k) at c.fgbg_image-p.ensures) c.args.self.place (rw k at c.finished-2.ensures)
-    (next-painted c.span.ensures (rw take_rest at c.paint_masks.ensures)))
+    (ready c.args.self _ c.requires.place) c.fgbg_image-p.result (rw (c.room.ensures.0, c.room.ensures.1, k) at c.fgbg_image-p.ensures) c.args.self.place (rw k at c.finished.ensures)
+    (next-painted c.span.ensures c.paint_masks.ensures))

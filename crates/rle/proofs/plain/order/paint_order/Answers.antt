@@ -54,7 +54,7 @@ returns-in-FgRun c = fg-painted _ _ _ _ c.in-FgRun.is _ (rw c.row_inks-fg.ensure
 pub returns-in-FgBgImage : goal.returns-in-FgBgImage
 returns-in-FgBgImage c =
     masks-painted _ _ _ _ c.in-FgBgImage.is _ _
-    (rw (c.row_inks-fg.ensures.0, c.row_inks-fg.ensures.1, take_rest, c.foreground_size.ensures) at c.paint_masks.ensures)
+    (rw (c.row_inks-fg.ensures.0, c.row_inks-fg.ensures.1, c.foreground_size.ensures) at c.paint_masks.ensures)
 
 pub returns-in-SpecialFgBg1 : goal.returns-in-SpecialFgBg1
 returns-in-SpecialFgBg1 c =

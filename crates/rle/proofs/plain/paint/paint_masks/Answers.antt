@@ -17,7 +17,7 @@ loop-i-preserved c =
       omega arith,
       omega arith,
       painted_join _ _ _ _ _ _ _ _ _ l.invariant.2
-          (painted_as (λ j b. mask_in_image (ink_of a.fg) (ink_of a.bg) a.src.now l.i j l.invariant.1 (omega arith))
+          (painted_as (λ j b. mask_in_image (ink_of a.fg) (ink_of a.bg) a.src.now a.from l.i j l.invariant.1 (omega arith))
           (rw eight at (painted_in c.part-eight.ensures c.paint_mask.ensures))),
     )
 
@@ -29,5 +29,5 @@ returns-2 c =
     let e : l.i + (a.span.pixels - l.i) ≡ a.span.pixels = omega (arith, l.invariant.0) in
     painted_at e
     (painted_join _ _ _ _ _ _ _ _ _ l.invariant.2
-    (painted_as (λ j b. mask_in_image (ink_of a.fg) (ink_of a.bg) a.src.now l.i j l.invariant.1 (omega arith))
+    (painted_as (λ j b. mask_in_image (ink_of a.fg) (ink_of a.bg) a.src.now a.from l.i j l.invariant.1 (omega arith))
     (rw few at (painted_in c.part-eight.ensures c.paint_mask.ensures))))
