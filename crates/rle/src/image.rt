@@ -8,7 +8,6 @@ ghost use Rattle.rle.specs.Carrying.{HasPicture, CarriesOut};
 use crate::kind::Kind;
 use crate::length::Length;
 use crate::order::Order;
-use crate::plan::foreground_size;
 use crate::state::Stepped;
 
 impl<'a> Order<'a> {
@@ -34,7 +33,7 @@ impl<'a> Order<'a> {
     {
         let s = self.state;
         let p = self.frame.room(s.pixels).run(Length { pixels: 8 });
-        let masks = [special_mask(self.kind)];
+        let masks = [self.kind.special_mask()];
         s.span(self.frame, p.pixels)
             .paint_whole_masks(&masks, dst, s.fg_ink());
         s.finished(p, self.kind)
@@ -53,20 +52,9 @@ impl<'a> Order<'a> {
             .room(s.pixels)
             .fgbg_image(self.kind, self.run_length, left);
         let t = self.with_foreground();
-        let from = s.pos + foreground_size(self.frame.depth.bytes, self.kind);
+        let from = s.pos + self.kind.foreground_size(self.frame.depth.bytes);
         s.span(self.frame, p.pixels)
             .paint_masks(self.src, from, dst, t.fg_ink());
         t.finished(p, self.kind)
-    }
-}
-
-// The mask of a special fg/bg image.
-pub(crate) fn special_mask(kind: Kind) -> u8
-    ensures first { kind ≡ SpecialFgBg1 → result ≡ 0x03 }
-    ensures second { kind ≡ SpecialFgBg2 → result ≡ 0x05 }
-{
-    match kind {
-        Kind::SpecialFgBg1 => 0x03,
-        _ => 0x05,
     }
 }

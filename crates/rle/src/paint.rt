@@ -4,7 +4,7 @@
 // for none. The other orders end before they paint then.
 //
 // Painters that take a span are put where they are called: as calls, which hand the span over in memory, a foreground run of one pixel
-// took 103 instructions in place of 54.
+// takes 103 instructions, and so 54.
 ghost use Rattle.std.specs.Prelude.{◌≡◌, ◌+◌, ◌-◌, ◌*◌, ◌/◌, ◌%◌, ◌≤◌, ◌<◌, IfSome, true, length, drop};
 ghost use Rattle.picture.specs.Pixels.{pixel_at, OfDepth};
 ghost use Rattle.definition.specs.Decode as decode;
@@ -28,7 +28,7 @@ pub(crate) enum Ink {
 }
 
 // n pixels of d bytes from dst[at] on, those `row` bytes back exclusive-or a color. It stays a call: inlined, 1000 pixels of three bytes
-// took 1968 instructions in place of 1019. It takes numbers, as a call that hands the span over took 4 to 10 more.
+// take 1968 instructions, and so 1019. It takes numbers, as a call that hands the span over takes 4 to 10 more.
 #[inline(never)]
 pub(crate) fn xor_rows(dst: &mut [u8], d: usize, at: usize, n: usize, row: usize, p: [u8; 3])
     requires { (1 ≤ d) × (d ≤ 3) × (row ≤ at) × (at + n * d ≤ length dst.old) }
@@ -40,7 +40,7 @@ pub(crate) fn xor_rows(dst: &mut [u8], d: usize, at: usize, n: usize, row: usize
 }
 
 // 8 * m pixels of d bytes from dst[at] on, by the masks that src begins with, in the first row where `back` is none. It stays a call, since it
-// has two callers, and takes numbers: as a call that hands span and ink over, 16 pixels of one byte took 228 instructions in place of 205.
+// has two callers, and takes numbers: as a call that hands span and ink over, 16 pixels of one byte take 228 instructions, and so 205.
 #[inline(never)]
 pub(crate) fn mask_rows(
     src: &[u8],
@@ -194,7 +194,7 @@ impl Span {
     #[inline(always)]
     pub(crate) fn back_and_color(self, ink: Ink) -> (Option<usize>, [u8; 3])
         requires paintable { Paintable self ink }
-        requires in_range { self.start * self.bytes ≤ 18446744073709551615 }
+        requires place { self.start * self.bytes ≤ 18446744073709551615 }
         ensures { result ≡ back_and_color self ink }
     {
         match ink {

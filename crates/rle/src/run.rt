@@ -1,14 +1,13 @@
 // Orders that paint runs, and single pixels. Each plans the order, paints the pixels that the plan says, and ends as the plan says.
 //
 // Where a plan says none, the order is refused. Orders of colors that the stream or the depth has end there, before they paint, so that
-// the compiler carries no refusal past the painting; the others leave it to their painter, which took fewer instructions.
+// the compiler carries no refusal past the painting; the others leave it to their painter, which paints none then.
 ghost use Rattle.std.specs.Prelude.{◌≡◌, ◌⊎◌};
 ghost use Rattle.definition.specs.Orders as orders;
 ghost use Rattle.rle.specs.Kinds.{kind_in};
 ghost use Rattle.rle.specs.declared.kind.Kind.TheVariants.{FgRun, SetFgRun, White, Black, NoOrder};
 ghost use Rattle.rle.specs.Carrying.{HasPicture, CarriesOut};
 
-use crate::frame::Frame;
 use crate::kind::Kind;
 use crate::order::Order;
 use crate::paint::Ink;
@@ -93,18 +92,7 @@ impl<'a> Order<'a> {
             return s.finished(p, self.kind);
         }
         s.span(self.frame, p.pixels)
-            .paint_pixel(dst, 0, Ink::Solid(white_or_black(self.frame, self.kind)));
+            .paint_pixel(dst, 0, Ink::Solid(self.frame.white_or_black(self.kind)));
         s.finished(p, self.kind)
-    }
-}
-
-// The color of a white or black order.
-pub(crate) fn white_or_black(f: Frame, kind: Kind) -> [u8; 3]
-    ensures white { kind ≡ White → result ≡ f.depth.white }
-    ensures black { (kind ≡ White → ⊥) → result ≡ f.depth.black }
-{
-    match kind {
-        Kind::White => f.depth.white,
-        _ => f.depth.black,
     }
 }

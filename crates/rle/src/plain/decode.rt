@@ -7,7 +7,7 @@ use crate::order::Order;
 use crate::plain::order::order;
 use crate::state::{State, Stepped};
 
-// The decoder whose pixels are painted one by one.
+// The decoder whose pixels are painted one by one. Its loop is no iterator for the same reason as the other's.
 pub(crate) struct Plain;
 
 impl Decoder for Plain {

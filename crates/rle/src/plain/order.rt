@@ -8,7 +8,6 @@ ghost use Rattle.rle.specs.Carrying.{HasPicture, CarriesOut};
 ghost use Rattle.rle.specs.Operands.{HasOperands};
 
 use crate::frame::Frame;
-use crate::image::special_mask;
 use crate::kind::Kind;
 use crate::order::Order;
 use crate::paint::Ink;
@@ -16,8 +15,6 @@ use crate::pixel::read_pixel;
 use crate::plain::paint::{
     paint_bg_run, paint_dithered, paint_image, paint_mask, paint_masks, paint_run,
 };
-use crate::plan::foreground_size;
-use crate::run::white_or_black;
 use crate::span::Span;
 use crate::state::{State, Stepped};
 
@@ -72,10 +69,10 @@ pub(crate) fn paint_order(dst: &mut [u8], o: Order<'_>, n: usize)
         Kind::BgRun => paint_bg_run(dst, span, o.state.insert.then_some(fg), bg),
         Kind::FgRun | Kind::SetFgRun => paint_run(dst, span, fg),
         Kind::FgBgImage | Kind::SetFgBgImage => {
-            paint_masks(src, pos + foreground_size(d, o.kind), dst, span, fg, bg)
+            paint_masks(src, pos + o.kind.foreground_size(d), dst, span, fg, bg)
         }
         Kind::SpecialFgBg1 | Kind::SpecialFgBg2 => {
-            paint_mask(dst, span, special_mask(o.kind), fg, bg)
+            paint_mask(dst, span, o.kind.special_mask(), fg, bg)
         }
         Kind::ColorRun => paint_run(dst, span, Ink::Solid(read_pixel(src, d, pos))),
         Kind::ColorImage => paint_image(&src[pos..], dst, span),
@@ -85,7 +82,7 @@ pub(crate) fn paint_order(dst: &mut [u8], o: Order<'_>, n: usize)
             paint_dithered(dst, span, a, b)
         }
         Kind::White | Kind::Black => {
-            paint_run(dst, span, Ink::Solid(white_or_black(o.frame, o.kind)))
+            paint_run(dst, span, Ink::Solid(o.frame.white_or_black(o.kind)))
         }
         Kind::NoOrder => {}
     }

@@ -9,7 +9,7 @@ use Rattle.rle.proofs.Stream.{invariant_at, order_read, order-refused, between_r
 use Rattle.rle.proofs.decode.orders_to.Goals as goal
 
 pub loop-t-init : goal.loop-t-init
-loop-t-init c = (c.requires.between_orders, le_refl _, c.requires.limit_le_width)
+loop-t-init c = (c.requires.between_orders, le_refl _, c.requires.first_row)
 
 pub returns-in-Ok-None : goal.returns-in-Ok-None
 returns-in-Ok-None c =
