@@ -231,9 +231,10 @@ pub dither_solid : {p : Pixel} (a b : Pixel) (j : ℕ) → p ≡ pick (eqb (j % 
 unfolding dither_ink
 dither_solid a b j e = ap solid e
 
-pub image-solid : {p : Pixel} (D : ℕ) (src : List ℕ) (j : ℕ) → p ≡ first_pixel D (drop (j * D) src) → solid p ≡ solid (pixel_at D src j)
+pub image-solid : {p : Pixel} (D : ℕ) (src : List ℕ) (a j : ℕ) → p ≡ first_pixel D (drop (a + j * D) src)
+    → solid p ≡ solid (pixel_at D (drop a src) j)
 unfolding pixel_at
-image-solid D src j e = ap solid e
+image-solid D src a j e = ap solid (e ∙ ap (λ (l : List ℕ). first_pixel D l) (sym (drop-drop (j * D) a src)))
 
 pub image-fits : (D n j : ℕ) → j < n → j * D + D ≤ n * D
 image-fits D n j h = omega (arith, mul-le-mul_right {m = j + 1} {n = n} D (omega arith))
