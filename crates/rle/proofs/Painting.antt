@@ -4,7 +4,7 @@ use mathlib.Core.List.{List, [], ◌∷◌, ◌++◌}
 use mathlib.Core.Bool.{Bool, true, false}
 use Rattle.std.specs.Prelude.{Some}
 use Prim.Native.Nat.{ℕ, ◌+◌, ◌*◌, ◌-◌, ◌/◌, ◌%◌, ◌^◌, ◌≤◌, ◌<◌}
-use native.Mathlib.Nat.{add-zero, add_assoc, mul-le-mul_right}
+use native.Mathlib.Nat.{add-zero, mul-le-mul_right}
 use native.Mathlib.Numerals.{add-one}
 use native.Mathlib.Omega.{arith}
 use lib.Dec.{ltb, eqb}
@@ -235,6 +235,3 @@ pub image-solid : {p : Pixel} (D : ℕ) (src : List ℕ) (a j : ℕ) → p ≡ f
     → solid p ≡ solid (pixel_at D (drop a src) j)
 unfolding pixel_at
 image-solid D src a j e = ap solid (e ∙ ap (λ (l : List ℕ). first_pixel D l) (sym (drop-drop (j * D) a src)))
-
-pub image-fits : (D n j : ℕ) → j < n → j * D + D ≤ n * D
-image-fits D n j h = omega (arith, mul-le-mul_right {m = j + 1} {n = n} D (omega arith))

@@ -25,7 +25,7 @@ use Rattle.picture.specs.Sizes.{Frame}
 use Rattle.base.proofs.Tests.{by_test, apart}
 use Rattle.definition.specs.Orders.{FgBgImage, SetFgBgImage}
 use Rattle.definition.specs.Decode.{Ink, solid, fg_ink, bg_ink, State, order_of}
-use Rattle.definition.specs.Plan.{Counts, behind, with_operands, run_counts, counts_of, leaves_insert, new_foreground, foreground_by, image_ink, kind_ink, leaves, foreground_in}
+use Rattle.definition.specs.Plan.{Counts, counts, complete, behind, with_operands, run_counts, counts_of, leaves_insert, new_foreground, foreground_by, image_ink, kind_ink, leaves, foreground_in}
 use Rattle.rle.specs.Planning.{counts_in}
 use Rattle.rle.specs.Painting.{HasColor, Paintable, Painted, ink_of, zero_ink}
 use Rattle.rle.specs.States.{frame_of, fg_of, with_fg, IsSpan, finished_of}
@@ -136,13 +136,23 @@ pixel-depth D (inl e) p q white black = rw (white e) p
 pixel-depth D (inr (inl e)) p q white black = rw (black (λ u. apart cc)) q
 pixel-depth D (inr (inr e)) p q white black = rw (black (λ u. apart cc)) q
 
--- at most one pixel, white or black
+-- one pixel, white or black
 module _ (f : Frame) (a R : ℕ) (p : CodePlan) where
-  pub pixel-few : {k : CodeKind} → IsPixel k → counts_in p ≡ counts_of f.bytes (kind_in k) 1 a R → p.pixels ≤ 1
-  unfolding counts_of
-  pixel-few (inl e) plans = subst (λ (c : Counts). c.pixels ≤ 1) (sym plans) (rw e (run-most f.bytes 1 R))
-  pixel-few (inr (inl e)) plans = subst (λ (c : Counts). c.pixels ≤ 1) (sym plans) (rw e (run-most f.bytes 1 R))
-  pixel-few (inr (inr e)) plans = subst (λ (c : Counts). c.pixels ≤ 1) (sym plans) (rw e (omega arith))
+  -- it is painted, where any is
+  pub pixel_all : {k : CodeKind} → IsPixel k → counts_in p ≡ counts_of f.bytes (kind_in k) 1 a R → 0 < p.pixels
+      → counts 0 1 complete ≡ counts_of f.bytes (kind_in k) 1 a R
+  unfolding counts_of run_counts
+  pixel_all (inl e) plans some =
+      rw e
+      (by_test (λ (c : Counts). 0 < c.pixels → counts 0 1 complete ≡ c) (leb 1 R) (λ _ _. refl) (λ _ h. absurd (omega arith))
+      (subst (λ (c : Counts). 0 < c.pixels) (rw e at plans) some))
+  pixel_all (inr (inl e)) plans some =
+      rw e
+      (by_test (λ (c : Counts). 0 < c.pixels → counts 0 1 complete ≡ c) (leb 1 R) (λ _ _. refl) (λ _ h. absurd (omega arith))
+      (subst (λ (c : Counts). 0 < c.pixels) (rw e at plans) some))
+  pixel_all (inr (inr e)) plans some =
+      let n : 0 < 0 = subst (λ (c : Counts). 0 < c.pixels) (rw e at plans) some in
+      absurd (omega arith)
 
   -- x: the color that the code has
   pub pixel_ink : (s : State) {k : CodeKind} → IsPixel k → counts_in p ≡ counts_of f.bytes (kind_in k) 1 a R

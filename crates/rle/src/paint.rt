@@ -155,19 +155,6 @@ impl Span {
         self.paint_many(dst, ink)
     }
 
-    // A foreground run.
-    #[inline(always)]
-    pub(crate) fn paint_fg_run(self, dst: &mut [u8], ink: Ink)
-        requires place { HasPlace self dst.old }
-        requires paintable { Paintable self ink }
-        ensures { Paints self (λ _. ink_of ink) dst.old dst.new }
-    {
-        if self.pixels == 0 {
-            return;
-        }
-        self.paint_run(dst, ink)
-    }
-
     // A background run, the first pixel with the inserted ink, if there is one. Its other pixels take the way for many: a test for a single
     // one takes more instructions than it saves.
     #[inline(always)]

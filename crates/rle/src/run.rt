@@ -12,6 +12,7 @@ use crate::kind::Kind;
 use crate::order::Order;
 use crate::paint::Ink;
 use crate::pixel::read_pixel;
+use crate::plan::Plan;
 use crate::state::Stepped;
 
 impl<'a> Order<'a> {
@@ -40,7 +41,7 @@ impl<'a> Order<'a> {
             .room(s.pixels)
             .fg_run(self.kind, self.run_length, left);
         let t = self.with_foreground();
-        s.span(self.frame, p.pixels).paint_fg_run(dst, t.fg_ink());
+        s.span(self.frame, p.pixels).paint_run(dst, t.fg_ink());
         t.finished(p, self.kind)
     }
 
@@ -91,8 +92,9 @@ impl<'a> Order<'a> {
         if p.pixels == 0 {
             return s.finished(p, self.kind);
         }
-        s.span(self.frame, p.pixels)
+        let whole = Plan::complete(0, 1);
+        s.span(self.frame, whole.pixels)
             .paint_pixel(dst, 0, Ink::Solid(self.frame.white_or_black(self.kind)));
-        s.finished(p, self.kind)
+        s.finished(whole, self.kind)
     }
 }

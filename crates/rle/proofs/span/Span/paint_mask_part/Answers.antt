@@ -3,7 +3,6 @@ use mathlib.Core.Path.{sym, subst}
 use mathlib.Core.List.{List}
 use Prim.Native.Nat.{ℕ, ◌*◌}
 use native.Mathlib.Omega.{arith}
-use lib.ListN.{drop}
 use Rattle.definition.specs.Plan.{image_ink}
 use Rattle.rle.specs.Painting.{Paints, ink_of, zero_ink}
 use Rattle.rle.proofs.Parts.{few_masked, back_there, masks_painted}
