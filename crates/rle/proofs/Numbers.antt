@@ -74,14 +74,14 @@ no_insert NoOrder n = refl
 
 -- numbers from 8 on have a fixed length
 fixed_by : (k : CodeKind) {n : ℕ} → (7 < number_of k → n ≡ pick (ltb 9 (number_of k)) 1 8) → fixed_length k n
-fixed_by BgRun f = tt
-fixed_by FgRun f = tt
-fixed_by FgBgImage f = tt
-fixed_by ColorRun f = tt
-fixed_by ColorImage f = tt
-fixed_by SetFgRun f = tt
-fixed_by SetFgBgImage f = tt
-fixed_by DitheredRun f = tt
+fixed_by BgRun f = refl
+fixed_by FgRun f = refl
+fixed_by FgBgImage f = refl
+fixed_by ColorRun f = refl
+fixed_by ColorImage f = refl
+fixed_by SetFgRun f = refl
+fixed_by SetFgBgImage f = refl
+fixed_by DitheredRun f = refl
 fixed_by SpecialFgBg1 f = f (omega arith)
 fixed_by SpecialFgBg2 f = f (omega arith)
 fixed_by White f = f (omega arith)

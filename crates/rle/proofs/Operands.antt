@@ -4,8 +4,6 @@ use mathlib.Core.List.{List}
 use mathlib.Core.Bool.{Bool, true, false}
 use mathlib.Core.Logic.{◌⊎◌, inl, inr}
 use Prim.Native.Nat.{ℕ, ◌+◌, ◌-◌, ◌*◌, ◌≤◌}
-use Rattle.std.specs.Prelude.{Option, IfSome}
-use Rattle.std.specs.Bool.{then_some}
 use native.Mathlib.Omega.{arith}
 use lib.ListN.{length, drop}
 use Rattle.rle.specs.declared.kind.Kind.{Kind as CodeKind}
@@ -22,17 +20,16 @@ use Rattle.rle.specs.Kinds.{kind_in, sets_foreground}
 use Rattle.rle.specs.Planning.{counts_in}
 use Rattle.rle.specs.declared.paint.Ink.{Ink as CodeInk}
 use Rattle.rle.specs.declared.span.Span.{Span}
-use Rattle.rle.specs.Painting.{HasPlace, Paintable, Painted, ink_of}
+use Rattle.rle.specs.Painting.{Paintable, Painted, ink_of}
 use Rattle.rle.specs.States.{Invariant, frame_of, fg_of, bg_of, with_fg, IsSpan, finished_of}
 use Rattle.rle.specs.declared.order.Order.{Order}
 use Rattle.rle.specs.Carrying.{HasPicture, CarriesOut}
 use Rattle.rle.specs.Operands.{HasOperands}
-use native.Mathlib.Nat.{mul-le-mul_right}
 use Rattle.picture.proofs.Pixels.{zeros_of_depth}
 use Rattle.rle.proofs.Carried.{ready}
 use Rattle.base.proofs.Tests.{apart}
 use Rattle.rle.proofs.Painting.{painted_as}
-use Rattle.rle.proofs.Inks.{fg_paintable, bg_paintable, insert_paintable, foreground_of_depth, fg-is, bg-is}
+use Rattle.rle.proofs.Inks.{bg_paintable, foreground_of_depth, fg-is, bg-is}
 use Rattle.rle.proofs.Numbers.{image_is}
 use Rattle.rle.proofs.Orders.{within, operands-read, image-operands, executes_finished}
 use Rattle.rle.proofs.Sharing.{IsSpecial, image_ink_lem, image-enough}
@@ -77,17 +74,8 @@ module _ (o : Order) (n : ℕ) (room : o.state.pixels + n ≤ o.frame.total) whe
   own_is : IsSpan o.frame o.state n own
   own_is = record { bytes = refl; width = refl; start = refl; pixels = refl }
 
-  pub own_place : (dst : List ℕ) → HasPicture o dst → HasPlace own dst
-  own_place dst fits = omega (arith, fits, mul-le-mul_right {m = o.state.pixels + n} {n = o.frame.total} o.frame.depth.bytes room)
-
-  pub own_fg : {ink : CodeInk} → ink ≡ fg_of o.state → Paintable own ink
-  own_fg e = rw e (fg_paintable own_is o.holds.row o.holds.foreground)
-
   pub own_bg : {ink : CodeInk} → ink ≡ bg_of o.frame o.state → Paintable own ink
   own_bg e = rw e (bg_paintable own_is o.holds.row (rw o.frame.black (zeros_of_depth o.frame.depth.bytes)))
-
-  pub own_insert : {ink : CodeInk} {insert : Option CodeInk} → ink ≡ fg_of o.state → insert ≡ then_some o.state.insert ink → IfSome insert (λ i. Paintable own i)
-  own_insert fg is = rw (is, fg) (insert_paintable own_is o.holds.row o.holds.foreground)
 
 -- a white or black order's color is of the depth
 pub color_depth : (D : ℕ) {w b x : Pixel} {k : CodeKind} → (k ≡ kinds.White) ⊎ (k ≡ kinds.Black) → OfDepth D w → OfDepth D b

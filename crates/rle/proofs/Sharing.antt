@@ -5,7 +5,7 @@ use mathlib.Core.Bool.{Bool, true, false}
 use mathlib.Core.Logic.{◌⊎◌, inl, inr}
 use Rattle.rle.specs.declared.kind.Kind.{Kind as CodeKind}
 use Rattle.rle.specs.declared.kind.Kind.TheVariants as kinds
-use Rattle.rle.specs.Kinds.{kind_in, sets_foreground}
+use Rattle.rle.specs.Kinds.{kind_in, sets_foreground, fixed_length}
 use Prim.Native.Nat.{ℕ, ◌+◌, ◌*◌, ◌-◌, ◌/◌, ◌%◌, ◌≤◌, ◌<◌, zero-le}
 use native.Mathlib.Nat.{add-zero, zero-add}
 use borrow.Author.Tests.{le-leb}
@@ -25,7 +25,7 @@ use Rattle.picture.specs.Sizes.{Frame}
 use Rattle.base.proofs.Tests.{by_test, apart}
 use Rattle.definition.specs.Orders.{FgBgImage, SetFgBgImage}
 use Rattle.definition.specs.Decode.{Ink, solid, fg_ink, bg_ink, State, order_of}
-use Rattle.definition.specs.Plan.{Counts, behind, with_operands, run_counts, counts_of, leaves_insert, new_foreground, foreground_by, image_ink, kind_ink, leaves, foreground_in}
+use Rattle.definition.specs.Plan.{Counts, counts, complete, behind, with_operands, run_counts, counts_of, leaves_insert, new_foreground, foreground_by, image_ink, kind_ink, leaves, foreground_in}
 use Rattle.rle.specs.Planning.{counts_in}
 use Rattle.rle.specs.Painting.{HasColor, Paintable, Painted, ink_of, zero_ink}
 use Rattle.rle.specs.States.{frame_of, fg_of, with_fg, IsSpan, finished_of}
@@ -71,6 +71,11 @@ run_ink f s (inr e) j = rw e
 abbrev pub IsSpecial : CodeKind → Type 0
 IsSpecial k = (k ≡ kinds.SpecialFgBg1) ⊎ (k ≡ kinds.SpecialFgBg2)
 
+-- its length is the only one of its kind
+pub special_eight : {k : CodeKind} → IsSpecial k → {n : ℕ} → fixed_length k n → n ≡ 8
+special_eight (inl e) fixed = rw e at fixed
+special_eight (inr e) fixed = rw e at fixed
+
 pub special_counts : (D n a R : ℕ) {k : CodeKind} → IsSpecial k → run_counts D n R ≡ counts_of D (kind_in k) n a R
 unfolding counts_of
 special_counts D n a R (inl e) = rw e
@@ -107,6 +112,11 @@ special_ink f s (inr e) m first second j few =
 abbrev pub IsPixel : CodeKind → Type 0
 IsPixel k = (k ≡ kinds.White) ⊎ ((k ≡ kinds.Black) ⊎ (k ≡ kinds.NoOrder))
 
+pub pixel_one : {k : CodeKind} → IsPixel k → {n : ℕ} → fixed_length k n → n ≡ 1
+pixel_one (inl e) fixed = rw e at fixed
+pixel_one (inr (inl e)) fixed = rw e at fixed
+pixel_one (inr (inr e)) fixed = rw e at fixed
+
 pub pixel-leaves : (D : ℕ) (s : CodeState) (xs : List ℕ) {k : CodeKind} → IsPixel k → s ≡ with_fg s (foreground_by D (kind_in k) s.foreground xs)
 unfolding foreground_in leaves
 pixel-leaves D s xs (inl e) = rw e
@@ -126,13 +136,23 @@ pixel-depth D (inl e) p q white black = rw (white e) p
 pixel-depth D (inr (inl e)) p q white black = rw (black (λ u. apart cc)) q
 pixel-depth D (inr (inr e)) p q white black = rw (black (λ u. apart cc)) q
 
--- at most one pixel, white or black
+-- one pixel, white or black
 module _ (f : Frame) (a R : ℕ) (p : CodePlan) where
-  pub pixel-few : {k : CodeKind} → IsPixel k → counts_in p ≡ counts_of f.bytes (kind_in k) 1 a R → p.pixels ≤ 1
-  unfolding counts_of
-  pixel-few (inl e) plans = subst (λ (c : Counts). c.pixels ≤ 1) (sym plans) (rw e (run-most f.bytes 1 R))
-  pixel-few (inr (inl e)) plans = subst (λ (c : Counts). c.pixels ≤ 1) (sym plans) (rw e (run-most f.bytes 1 R))
-  pixel-few (inr (inr e)) plans = subst (λ (c : Counts). c.pixels ≤ 1) (sym plans) (rw e (omega arith))
+  -- it is painted, where any is
+  pub pixel_all : {k : CodeKind} → IsPixel k → counts_in p ≡ counts_of f.bytes (kind_in k) 1 a R → 0 < p.pixels
+      → counts 0 1 complete ≡ counts_of f.bytes (kind_in k) 1 a R
+  unfolding counts_of run_counts
+  pixel_all (inl e) plans some =
+      rw e
+      (by_test (λ (c : Counts). 0 < c.pixels → counts 0 1 complete ≡ c) (leb 1 R) (λ _ _. refl) (λ _ h. absurd (omega arith))
+      (subst (λ (c : Counts). 0 < c.pixels) (rw e at plans) some))
+  pixel_all (inr (inl e)) plans some =
+      rw e
+      (by_test (λ (c : Counts). 0 < c.pixels → counts 0 1 complete ≡ c) (leb 1 R) (λ _ _. refl) (λ _ h. absurd (omega arith))
+      (subst (λ (c : Counts). 0 < c.pixels) (rw e at plans) some))
+  pixel_all (inr (inr e)) plans some =
+      let n : 0 < 0 = subst (λ (c : Counts). 0 < c.pixels) (rw e at plans) some in
+      absurd (omega arith)
 
   -- x: the color that the code has
   pub pixel_ink : (s : State) {k : CodeKind} → IsPixel k → counts_in p ≡ counts_of f.bytes (kind_in k) 1 a R

@@ -58,18 +58,22 @@ sets_foreground White = false
 sets_foreground Black = false
 sets_foreground NoOrder = false
 
--- special fg/bg images have eight pixels; white, black and no order one
+-- the run length of an order that says n: special fg/bg images have eight pixels; white, black and no order one
+abbrev pub length_by : CodeKind → ℕ → ℕ
+length_by BgRun n = n
+length_by FgRun n = n
+length_by FgBgImage n = n
+length_by ColorRun n = n
+length_by ColorImage n = n
+length_by SetFgRun n = n
+length_by SetFgBgImage n = n
+length_by DitheredRun n = n
+length_by SpecialFgBg1 n = 8
+length_by SpecialFgBg2 n = 8
+length_by White n = 1
+length_by Black n = 1
+length_by NoOrder n = 1
+
+-- n is a run length that an order of this kind may have
 abbrev pub fixed_length : CodeKind → ℕ → Type 0
-fixed_length BgRun n = Unit {0}
-fixed_length FgRun n = Unit {0}
-fixed_length FgBgImage n = Unit {0}
-fixed_length ColorRun n = Unit {0}
-fixed_length ColorImage n = Unit {0}
-fixed_length SetFgRun n = Unit {0}
-fixed_length SetFgBgImage n = Unit {0}
-fixed_length DitheredRun n = Unit {0}
-fixed_length SpecialFgBg1 n = n ≡ 8
-fixed_length SpecialFgBg2 n = n ≡ 8
-fixed_length White n = n ≡ 1
-fixed_length Black n = n ≡ 1
-fixed_length NoOrder n = n ≡ 1
+fixed_length k n = n ≡ length_by k n

@@ -41,7 +41,8 @@ pub(crate) fn decompress_by<D: Decoder>(
 }
 
 // Orders from the state s on until `limit` pixels are painted, or to the stream's end or its refusal. In the first row the limit is
-// its end, so that no order has to look for it.
+// its end, so that no order has to look for it. A loop, and no iterator over the orders as the encoder has: how far an order reaches in
+// the stream, its plan says, which needs the state before it.
 pub(crate) fn orders_to(
     src: &[u8],
     dst: &mut [u8],
@@ -52,7 +53,7 @@ pub(crate) fn orders_to(
 ) -> Stepped
     requires fits { f.total * f.depth.bytes ≤ length dst.old }
     requires between_orders { BetweenOrders (frame_of f) src.now dst.old dst.old s }
-    requires limit_le_width { s.first_row ≡ true → limit ≤ f.width }
+    requires first_row { s.first_row ≡ true → limit ≤ f.width }
     ensures { DecodesTo limit (frame_of f) src.now dst.old dst.new s result }
 {
     let mut t = s;
@@ -65,9 +66,10 @@ pub(crate) fn orders_to(
                     src,
                     frame: f,
                     state: t.moved(o.next),
+                    kind: o.kind,
                     run_length: o.run_length,
                 };
-                let r = next.carry_out(dst, o.kind);
+                let r = next.carry_out(dst);
                 if r.ending.is_err() {
                     return r;
                 }

@@ -1,7 +1,9 @@
 // What a picture's orders go by.
 ghost use Rattle.std.specs.Prelude.{◌≡◌, [], ◌∷◌, ◌≤◌};
 ghost use Rattle.picture.specs.Pixels.{OfDepth};
+ghost use Rattle.rle.specs.declared.kind.Kind.TheVariants.{White};
 
+use crate::kind::Kind;
 use crate::plan::Room;
 use picture::{Depth, RleError, depth_of, picture_size};
 
@@ -45,6 +47,17 @@ impl Frame {
         Room {
             bytes: self.depth.bytes,
             pixels: self.total - pixels,
+        }
+    }
+
+    // The color of a white or black order.
+    pub(crate) fn white_or_black(self, kind: Kind) -> [u8; 3]
+        ensures white { kind ≡ White → result ≡ self.depth.white }
+        ensures black { (kind ≡ White → ⊥) → result ≡ self.depth.black }
+    {
+        match kind {
+            Kind::White => self.depth.white,
+            _ => self.depth.black,
         }
     }
 }

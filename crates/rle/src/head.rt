@@ -3,7 +3,7 @@ ghost use Rattle.std.specs.Prelude.{◌≡◌, ◌≤◌, ◌<◌, length, drop}
 ghost use Rattle.definition.specs.Orders.{row_of, place_of, in_byte, in_two_bytes, length_of, mega_length, mega_mega_length};
 ghost use Rattle.definition.specs.Codes.{kind_number};
 ghost use Rattle.rle.specs.Kinds.{number_of};
-ghost use Rattle.rle.specs.Heads.{own_place, mega_in, ReadsLength, ReadsHead};
+ghost use Rattle.rle.specs.Heads.{ReadsLength, ReadsHead};
 
 use crate::header::Headers;
 use crate::kind::Kind;
@@ -72,28 +72,6 @@ pub(crate) fn extract_run_length_mega_mega(src: &[u8], pos: usize) -> Result<Run
     }
 }
 
-// What a kind adds to a length of one byte.
-pub(crate) fn mega(kind: Kind) -> usize
-    ensures { result ≡ mega_in kind }
-{
-    match kind {
-        Kind::FgBgImage | Kind::SetFgBgImage => 1,
-        Kind::BgRun | Kind::FgRun | Kind::ColorRun | Kind::ColorImage => 32,
-        _ => 16,
-    }
-}
-
-// The place of a run length that the header's byte decides: some kinds have just one.
-pub(crate) fn own_place(kind: Kind) -> Place
-    ensures { result ≡ own_place kind }
-{
-    match kind {
-        Kind::SpecialFgBg1 | Kind::SpecialFgBg2 | Kind::White | Kind::Black | Kind::NoOrder =>
-            Place::Nowhere,
-        _ => Place::InHeader,
-    }
-}
-
 // The run length of the order with this header, of this kind, from src[pos] on.
 pub(crate) fn extract_run_length(
     src: &[u8],
@@ -109,12 +87,12 @@ pub(crate) fn extract_run_length(
     if 0 < pixels {
         return Ok(RunLength {
             pixels,
-            place: own_place(kind),
+            place: kind.own_place(),
             next: pos,
         });
     }
     if header < 0xF0 {
-        return extract_run_length_mega(src, pos, mega(kind));
+        return extract_run_length_mega(src, pos, kind.mega());
     }
     extract_run_length_mega_mega(src, pos)
 }

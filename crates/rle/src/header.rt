@@ -43,7 +43,8 @@ const KINDS: [[Kind; 16]; 16] = [
     ],
 ];
 
-// The run length that each header byte has itself, 0 where it stands in the bytes after it.
+// The run length that each header byte has itself, 0 where it stands in the bytes after it: as in the definition's table, with which
+// `lengths_listed` compares it.
 const LENGTHS: [u8; 256] = [
     0, 1, 2, 3, 4, 5, 6, 7, 8, 9, 10, 11, 12, 13, 14, 15, 16, 17, 18, 19, 20, 21, 22, 23, 24, 25,
     26, 27, 28, 29, 30, 31, 0, 1, 2, 3, 4, 5, 6, 7, 8, 9, 10, 11, 12, 13, 14, 15, 16, 17, 18, 19,
@@ -74,6 +75,7 @@ impl Headers {
         }
     }
 
+    // A header is a usize, as `u8_from` reads it and a record has it.
     pub(crate) fn kind(&self, header: usize) -> Kind
         requires { header < 256 }
         ensures { number_of result ≡ kind_number header }

@@ -8,7 +8,6 @@ ghost use Rattle.rle.specs.Carrying.{HasPicture, CarriesOut};
 use crate::kind::Kind;
 use crate::length::Length;
 use crate::order::Order;
-use crate::plan::foreground_size;
 use crate::state::Stepped;
 
 impl<'a> Order<'a> {
@@ -27,47 +26,35 @@ impl<'a> Order<'a> {
         s.finished(p, Kind::ColorImage)
     }
 
-    pub(crate) fn special_fgbg(self, dst: &mut [u8], kind: Kind) -> Stepped
+    pub(crate) fn special_fgbg(self, dst: &mut [u8]) -> Stepped
         requires place { HasPicture self dst.old }
-        requires eight { self.run_length.pixels ≡ 8 }
-        requires special { (kind ≡ SpecialFgBg1) ⊎ (kind ≡ SpecialFgBg2) }
-        ensures { CarriesOut self.entry (kind_in kind) dst.old dst.new result }
+        requires special { (self.kind ≡ SpecialFgBg1) ⊎ (self.kind ≡ SpecialFgBg2) }
+        ensures { CarriesOut self.entry (kind_in self.entry.kind) dst.old dst.new result }
     {
         let s = self.state;
         let p = self.frame.room(s.pixels).run(Length { pixels: 8 });
-        let masks = [special_mask(kind)];
+        let masks = [self.kind.special_mask()];
         s.span(self.frame, p.pixels)
-            .paint_whole_masks(&masks, 0, dst, s.fg_ink());
-        s.finished(p, kind)
+            .paint_whole_masks(&masks, dst, s.fg_ink());
+        s.finished(p, self.kind)
     }
 
     // An fg/bg image, with or without a foreground of its own.
-    pub(crate) fn fgbg_image(self, dst: &mut [u8], kind: Kind) -> Stepped
+    pub(crate) fn fgbg_image(self, dst: &mut [u8]) -> Stepped
         requires place { HasPicture self dst.old }
-        requires image { (kind ≡ FgBgImage) ⊎ (kind ≡ SetFgBgImage) }
-        ensures { CarriesOut self.entry (kind_in kind) dst.old dst.new result }
+        requires image { (self.kind ≡ FgBgImage) ⊎ (self.kind ≡ SetFgBgImage) }
+        ensures { CarriesOut self.entry (kind_in self.entry.kind) dst.old dst.new result }
     {
         let s = self.state;
         let left = self.src.len() - s.pos;
         let p = self
             .frame
             .room(s.pixels)
-            .fgbg_image(kind, self.run_length, left);
-        let t = self.with_foreground(kind);
-        let masks = s.pos + foreground_size(self.frame.depth.bytes, kind);
+            .fgbg_image(self.kind, self.run_length, left);
+        let t = self.with_foreground();
+        let from = s.pos + self.kind.foreground_size(self.frame.depth.bytes);
         s.span(self.frame, p.pixels)
-            .paint_masks(self.src, masks, dst, t.fg_ink());
-        t.finished(p, kind)
-    }
-}
-
-// The mask of a special fg/bg image.
-pub(crate) fn special_mask(kind: Kind) -> u8
-    ensures first { kind ≡ SpecialFgBg1 → result ≡ 0x03 }
-    ensures second { kind ≡ SpecialFgBg2 → result ≡ 0x05 }
-{
-    match kind {
-        Kind::SpecialFgBg1 => 0x03,
-        _ => 0x05,
+            .paint_masks(self.src, from, dst, t.fg_ink());
+        t.finished(p, self.kind)
     }
 }

@@ -36,7 +36,8 @@ pub use report::Report;
 pub use walk::{Found, Walk};
 use walk::{count_in, walk_orders};
 
-// Decodes the stream `src` of a picture into the first bytes of `dst`, of which the bytes after the painted pixels stay.
+// Decodes the stream `src` of a picture into the first bytes of `dst`, of which the bytes after the painted pixels stay. Width,
+// height and bits of a pixel are three numbers, as in rle.rs's `decompress`.
 pub fn decompress(src: &[u8], dst: &mut [u8], width: usize, height: usize, bpp: usize) -> Report
     ensures { Decompresses src.now bpp width height dst.old dst.new result }
 {

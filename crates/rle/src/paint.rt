@@ -4,7 +4,7 @@
 // for none. The other orders end before they paint then.
 //
 // Painters that take a span are put where they are called: as calls, which hand the span over in memory, a foreground run of one pixel
-// took 103 instructions in place of 54.
+// takes 103 instructions, and so 54.
 ghost use Rattle.std.specs.Prelude.{◌≡◌, ◌+◌, ◌-◌, ◌*◌, ◌/◌, ◌%◌, ◌≤◌, ◌<◌, IfSome, true, length, drop};
 ghost use Rattle.picture.specs.Pixels.{pixel_at, OfDepth};
 ghost use Rattle.definition.specs.Decode as decode;
@@ -28,7 +28,7 @@ pub(crate) enum Ink {
 }
 
 // n pixels of d bytes from dst[at] on, those `row` bytes back exclusive-or a color. It stays a call: inlined, 1000 pixels of three bytes
-// took 1968 instructions in place of 1019. It takes numbers, as a call that hands the span over took 4 to 10 more.
+// take 1968 instructions, and so 1019. It takes numbers, as a call that hands the span over takes 4 to 10 more.
 #[inline(never)]
 pub(crate) fn xor_rows(dst: &mut [u8], d: usize, at: usize, n: usize, row: usize, p: [u8; 3])
     requires { (1 ≤ d) × (d ≤ 3) × (row ≤ at) × (at + n * d ≤ length dst.old) }
@@ -39,12 +39,11 @@ pub(crate) fn xor_rows(dst: &mut [u8], d: usize, at: usize, n: usize, row: usize
     xor_back(&mut dst[from..end], d, row, n, row, p);
 }
 
-// 8 * m pixels of d bytes from dst[at] on, by the masks from src[from] on, in the first row where `back` is none. It stays a call, since it
-// has two callers, and takes numbers: as a call that hands span and ink over, 16 pixels of one byte took 228 instructions in place of 205.
+// 8 * m pixels of d bytes from dst[at] on, by the masks that src begins with, in the first row where `back` is none. It stays a call, since it
+// has two callers, and takes numbers: as a call that hands span and ink over, 16 pixels of one byte take 228 instructions, and so 205.
 #[inline(never)]
 pub(crate) fn mask_rows(
     src: &[u8],
-    from: usize,
     dst: &mut [u8],
     d: usize,
     at: usize,
@@ -53,24 +52,14 @@ pub(crate) fn mask_rows(
     p: [u8; 3],
 )
     requires depth { (1 ≤ d) × (d ≤ 3) }
-    requires fits { (from + m ≤ length src.now) × (at + m * 8 * d ≤ length dst.old) }
+    requires fits { (m ≤ length src.now) × (at + m * 8 * d ≤ length dst.old) }
     requires back { row_there back at ≡ true }
-    ensures { dst.new ≡ run (row_bytes back at (masked_by src.now from d p)) at (m * 8 * d) dst.old }
+    ensures { dst.new ≡ run (row_bytes back at (masked_by src.now 0 d p)) at (m * 8 * d) dst.old }
 {
     let row = back.unwrap_or(0);
     let start = at - row;
     let end = at + m * 8 * d;
-    let last = from + m;
-    masks(
-        &src[from..last],
-        0,
-        &mut dst[start..end],
-        d,
-        row,
-        back,
-        m,
-        p,
-    );
+    masks(&src[..m], 0, &mut dst[start..end], d, row, back, m, p);
 }
 
 impl Span {
@@ -166,19 +155,6 @@ impl Span {
         self.paint_many(dst, ink)
     }
 
-    // A foreground run.
-    #[inline(always)]
-    pub(crate) fn paint_fg_run(self, dst: &mut [u8], ink: Ink)
-        requires place { HasPlace self dst.old }
-        requires paintable { Paintable self ink }
-        ensures { Paints self (λ _. ink_of ink) dst.old dst.new }
-    {
-        if self.pixels == 0 {
-            return;
-        }
-        self.paint_run(dst, ink)
-    }
-
     // A background run, the first pixel with the inserted ink, if there is one. Its other pixels take the way for many: a test for a single
     // one takes more instructions than it saves.
     #[inline(always)]
@@ -205,7 +181,7 @@ impl Span {
     #[inline(always)]
     pub(crate) fn back_and_color(self, ink: Ink) -> (Option<usize>, [u8; 3])
         requires paintable { Paintable self ink }
-        requires in_range { self.start * self.bytes ≤ 18446744073709551615 }
+        requires place { self.start * self.bytes ≤ 18446744073709551615 }
         ensures { result ≡ back_and_color self ink }
     {
         match ink {
@@ -215,43 +191,34 @@ impl Span {
         }
     }
 
-    // By whole masks, those from src[from] on: where a bit is 1 with the ink, where it is 0 with what the ink is without its color.
+    // By whole masks, those that src begins with: where a bit is 1 with the ink, where it is 0 with what the ink is without its color.
     #[inline(always)]
-    pub(crate) fn paint_whole_masks(self, src: &[u8], from: usize, dst: &mut [u8], ink: Ink)
+    pub(crate) fn paint_whole_masks(self, src: &[u8], dst: &mut [u8], ink: Ink)
         requires place { HasPlace self dst.old }
         requires paintable { Paintable self ink × HasColor ink }
-        requires masks { (self.pixels % 8 ≡ 0) × (from + self.pixels / 8 ≤ length src.now) }
-        ensures { Paints self (image_ink (ink_of ink) (zero_ink ink) (drop from src.now)) dst.old dst.new }
+        requires masks { (self.pixels % 8 ≡ 0) × (self.pixels / 8 ≤ length src.now) }
+        ensures { Paints self (image_ink (ink_of ink) (zero_ink ink) src.now) dst.old dst.new }
     {
         let d = self.bytes;
         let (back, p) = self.back_and_color(ink);
-        mask_rows(src, from, dst, d, self.start * d, self.pixels / 8, back, p);
+        mask_rows(src, dst, d, self.start * d, self.pixels / 8, back, p);
     }
 
-    // By one mask, src[from], of which it has eight pixels at most. Here the whole target is lent: for so few pixels a part would take
+    // By one mask, the first of src, of which it has eight pixels at most. Here the whole target is lent: for so few pixels a part would take
     // longer than its tests.
-    pub(crate) fn paint_mask_part(self, src: &[u8], from: usize, dst: &mut [u8], ink: Ink)
+    pub(crate) fn paint_mask_part(self, src: &[u8], dst: &mut [u8], ink: Ink)
         requires place { HasPlace self dst.old }
         requires paintable { Paintable self ink × HasColor ink }
-        requires mask { (self.pixels ≤ 8) × (from < length src.now) }
-        ensures { Paints self (image_ink (ink_of ink) (zero_ink ink) (drop from src.now)) dst.old dst.new }
+        requires mask { (self.pixels ≤ 8) × (0 < length src.now) }
+        ensures { Paints self (image_ink (ink_of ink) (zero_ink ink) src.now) dst.old dst.new }
     {
         let d = self.bytes;
         let (back, p) = self.back_and_color(ink);
-        let last = from + 1;
-        mask_part(
-            &src[from..last],
-            0,
-            dst,
-            d,
-            self.start * d,
-            back,
-            self.pixels,
-            p,
-        );
+        mask_part(&src[..1], 0, dst, d, self.start * d, back, self.pixels, p);
     }
 
-    // Eight pixels to a mask, by the masks from src[from] on.
+    // Eight pixels to a mask, by the masks from src[from] on: a place that lies behind the stream where it has no pixels to paint. A test for
+    // that, as a slice needs it, makes 204 instructions of 182 for an image of few pixels.
     pub(crate) fn paint_masks(self, src: &[u8], from: usize, dst: &mut [u8], ink: Ink)
         requires place { HasPlace self dst.old }
         requires paintable { Paintable self ink × HasColor ink }
@@ -260,14 +227,16 @@ impl Span {
     {
         let m = self.pixels / 8;
         if 0 < m {
-            self.part(0, m * 8).paint_whole_masks(src, from, dst, ink);
+            self.part(0, m * 8)
+                .paint_whole_masks(&src[from..], dst, ink);
         }
         let rest = self.pixels % 8;
         if rest == 0 {
             return;
         }
+        let last = from + m;
         self.part(m * 8, rest)
-            .paint_mask_part(src, from + m, dst, ink);
+            .paint_mask_part(&src[last..], dst, ink);
     }
 
     // An even number of pixels, a and b by turns.
@@ -283,7 +252,7 @@ impl Span {
         fill_pairs(&mut dst[at..end], d, 0, self.pixels / 2, a, b);
     }
 
-    // With the pixels of the stream from src[pos] on.
+    // With the pixels of the stream from src[pos] on. Handed the slice that begins there, it takes 78 instructions for 74 with few pixels.
     pub(crate) fn paint_image(self, src: &[u8], pos: usize, dst: &mut [u8])
         requires place { HasPlace self dst.old }
         requires operands { pos + self.pixels * self.bytes ≤ length src.now }

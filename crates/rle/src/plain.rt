@@ -1,8 +1,8 @@
 // A decoder that works out depth and row distance at each pixel. It meets the contract of `rle::decompress`, so both give the same;
 // the crate two_decoders has that as the contract of two calls.
 //
-// It shares no function that takes a state with the other decoder: its loop and its orders write the state's fields themselves. What
-// both call takes numbers, bytes, a kind, a frame, a room, a span or an ink: heads, plans, single pixels, the report.
+// It shares no function that takes a state with the other decoder, and no painter but that of one pixel: its loop, its orders and its
+// painters of many pixels are its own. What both have is what an order reads and plans, the state that a stream begins in, and the report.
 ghost use Rattle.rle.specs.Report.{Decompresses};
 
 pub(crate) mod beside;

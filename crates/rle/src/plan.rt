@@ -1,12 +1,12 @@
 // Planning an order: what it reads and paints and how it ends, from counts alone. Whoever has a target paints the pixels that a plan
 // says, and refuses nothing more.
 //
-// n: the run length, left: bytes of the stream behind it.
+// n: the run length, left: bytes of the stream behind it, read: bytes of operands in front of pixels or masks. n and left stay two numbers:
+// a dithered run hands on another n, an image behind its foreground another left.
 ghost use Rattle.std.specs.Prelude.{◌≡◌, ◌⊎◌, false, ◌+◌, ◌*◌, ◌≤◌, ◌<◌, min, leb, Ok};
-ghost use Rattle.base.specs.Picks.{pick};
 ghost use Rattle.picture.specs.Sizes.{refusal};
 ghost use Rattle.definition.specs.Plan as plan;
-ghost use Rattle.rle.specs.Kinds.{kind_in, sets_foreground};
+ghost use Rattle.rle.specs.Kinds.{kind_in};
 ghost use Rattle.rle.specs.Planning.{counts_in};
 ghost use Rattle.rle.specs.declared.kind.Kind.TheVariants.{FgRun, FgBgImage, SetFgRun, SetFgBgImage, White, Black, NoOrder};
 
@@ -14,7 +14,8 @@ use crate::kind::Kind;
 use crate::length::Length;
 use picture::RleError;
 
-// Bytes to read behind the run length, pixels to paint, and how the order ends then.
+// Bytes to read behind the run length, pixels to paint, and how the order ends then. The ending stands beside them, since an order that
+// is refused may read and paint too.
 #[derive(Clone, Copy)]
 pub(crate) struct Plan {
     pub(crate) read: usize,
@@ -114,7 +115,7 @@ impl Room {
         requires { (kind ≡ FgRun) ⊎ (kind ≡ SetFgRun) }
         ensures { counts_in result ≡ plan.counts_of self.bytes (kind_in kind) n.pixels left self.pixels }
     {
-        self.with_operands(n.pixels, left, foreground_size(self.bytes, kind))
+        self.with_operands(n.pixels, left, kind.foreground_size(self.bytes))
     }
 
     // A color or set-foreground run: one pixel is its operand.
@@ -153,8 +154,8 @@ impl Room {
 
     // An fg/bg image that does not go through: a mask is missing, or room for its pixels.
     pub(crate) fn cut_image(self, n: Length, left: usize, read: usize) -> Plan
-        requires read_bound { read ≤ 3 }
-        requires left_bound { n.pixels ≤ self.pixels → left < plan.masks_for n.pixels }
+        requires operands { read ≤ 3 }
+        requires masks { n.pixels ≤ self.pixels → left < plan.masks_for n.pixels }
         ensures { counts_in result ≡ plan.behind read (plan.image_counts self.bytes n.pixels left self.pixels) }
     {
         if n.pixels <= self.pixels || left <= self.pixels / 8 {
@@ -180,7 +181,7 @@ impl Room {
         requires { (kind ≡ FgBgImage) ⊎ (kind ≡ SetFgBgImage) }
         ensures { counts_in result ≡ plan.counts_of self.bytes (kind_in kind) n.pixels left self.pixels }
     {
-        let size = foreground_size(self.bytes, kind);
+        let size = kind.foreground_size(self.bytes);
         if left < size {
             return Plan::too_short(0, 0, size, left);
         }
@@ -224,11 +225,4 @@ pub(crate) fn no_mask(left: usize, read: usize) -> Plan
     ensures { counts_in result ≡ plan.behind read (plan.no_mask left) }
 {
     Plan::too_short(read + left, left * 8, 1, 0)
-}
-
-// The bytes of the foreground that an order reads.
-pub(crate) fn foreground_size(d: usize, kind: Kind) -> usize
-    ensures { result ≡ pick (sets_foreground kind) d 0 }
-{
-    if kind.sets_foreground() { d } else { 0 }
 }

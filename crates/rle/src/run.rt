@@ -1,18 +1,18 @@
 // Orders that paint runs, and single pixels. Each plans the order, paints the pixels that the plan says, and ends as the plan says.
 //
 // Where a plan says none, the order is refused. Orders of colors that the stream or the depth has end there, before they paint, so that
-// the compiler carries no refusal past the painting; the others leave it to their painter, which took fewer instructions.
+// the compiler carries no refusal past the painting; the others leave it to their painter, which paints none then.
 ghost use Rattle.std.specs.Prelude.{◌≡◌, ◌⊎◌};
 ghost use Rattle.definition.specs.Orders as orders;
 ghost use Rattle.rle.specs.Kinds.{kind_in};
 ghost use Rattle.rle.specs.declared.kind.Kind.TheVariants.{FgRun, SetFgRun, White, Black, NoOrder};
 ghost use Rattle.rle.specs.Carrying.{HasPicture, CarriesOut};
 
-use crate::frame::Frame;
 use crate::kind::Kind;
 use crate::order::Order;
 use crate::paint::Ink;
 use crate::pixel::read_pixel;
+use crate::plan::Plan;
 use crate::state::Stepped;
 
 impl<'a> Order<'a> {
@@ -29,20 +29,20 @@ impl<'a> Order<'a> {
 
     // A foreground run, with or without a foreground of its own. Each kind has a copy of its own, so that neither tests for the other.
     #[inline(always)]
-    pub(crate) fn fg_run(self, dst: &mut [u8], kind: Kind) -> Stepped
+    pub(crate) fn fg_run(self, dst: &mut [u8]) -> Stepped
         requires place { HasPicture self dst.old }
-        requires run { (kind ≡ FgRun) ⊎ (kind ≡ SetFgRun) }
-        ensures { CarriesOut self.entry (kind_in kind) dst.old dst.new result }
+        requires run { (self.kind ≡ FgRun) ⊎ (self.kind ≡ SetFgRun) }
+        ensures { CarriesOut self.entry (kind_in self.entry.kind) dst.old dst.new result }
     {
         let s = self.state;
         let left = self.src.len() - s.pos;
         let p = self
             .frame
             .room(s.pixels)
-            .fg_run(kind, self.run_length, left);
-        let t = self.with_foreground(kind);
-        s.span(self.frame, p.pixels).paint_fg_run(dst, t.fg_ink());
-        t.finished(p, kind)
+            .fg_run(self.kind, self.run_length, left);
+        let t = self.with_foreground();
+        s.span(self.frame, p.pixels).paint_run(dst, t.fg_ink());
+        t.finished(p, self.kind)
     }
 
     pub(crate) fn color_run(self, dst: &mut [u8]) -> Stepped
@@ -82,30 +82,19 @@ impl<'a> Order<'a> {
     }
 
     // One white or black pixel, or no order. One function for them: as arms of a jump they would be mispredicted half the time.
-    pub(crate) fn one_pixel(self, dst: &mut [u8], kind: Kind) -> Stepped
+    pub(crate) fn one_pixel(self, dst: &mut [u8]) -> Stepped
         requires place { HasPicture self dst.old }
-        requires one { self.run_length.pixels ≡ 1 }
-        requires pixel { (kind ≡ White) ⊎ ((kind ≡ Black) ⊎ (kind ≡ NoOrder)) }
-        ensures { CarriesOut self.entry (kind_in kind) dst.old dst.new result }
+        requires pixel { (self.kind ≡ White) ⊎ ((self.kind ≡ Black) ⊎ (self.kind ≡ NoOrder)) }
+        ensures { CarriesOut self.entry (kind_in self.entry.kind) dst.old dst.new result }
     {
         let s = self.state;
-        let p = self.frame.room(s.pixels).pixel(kind);
+        let p = self.frame.room(s.pixels).pixel(self.kind);
         if p.pixels == 0 {
-            return s.finished(p, kind);
+            return s.finished(p, self.kind);
         }
-        s.span(self.frame, p.pixels)
-            .paint_pixel(dst, 0, Ink::Solid(white_or_black(self.frame, kind)));
-        s.finished(p, kind)
-    }
-}
-
-// The color of a white or black order.
-pub(crate) fn white_or_black(f: Frame, kind: Kind) -> [u8; 3]
-    ensures white { kind ≡ White → result ≡ f.depth.white }
-    ensures black { (kind ≡ White → ⊥) → result ≡ f.depth.black }
-{
-    match kind {
-        Kind::White => f.depth.white,
-        _ => f.depth.black,
+        let whole = Plan::complete(0, 1);
+        s.span(self.frame, whole.pixels)
+            .paint_pixel(dst, 0, Ink::Solid(self.frame.white_or_black(self.kind)));
+        s.finished(whole, self.kind)
     }
 }

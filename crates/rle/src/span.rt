@@ -2,7 +2,8 @@
 ghost use Rattle.std.specs.Prelude.{◌+◌, ◌≤◌};
 
 // So many pixels of a picture, one behind the other from number `start` on, each of so many bytes, in rows of `width` pixels. Pixel k
-// stands in a target's bytes from k * bytes on, and the pixel above it `width` pixels before.
+// stands in a target's bytes from k * bytes on, and the pixel above it `width` pixels before. The target is none of its fields: a painter
+// lends it on with parts of the span, and each two painters are held beside each other with one span on two targets.
 #[derive(Clone, Copy)]
 pub(crate) struct Span {
     pub(crate) bytes: usize,

@@ -24,7 +24,7 @@ pub(crate) struct State {
     pub(crate) orders: usize,
 }
 
-// How an order, or a whole stream, ends, and in which state.
+// How an order, or a whole stream, ends, and in which state: a refusal has one too, with the pixels that were painted by then.
 #[derive(Clone, Copy)]
 pub(crate) struct Stepped {
     pub(crate) ending: Result<(), RleError>,
@@ -110,9 +110,10 @@ impl State {
     {
         let foreground = self.foreground;
         if self.first_row {
-            return Ink::Solid(foreground);
+            Ink::Solid(foreground)
+        } else {
+            Ink::AboveXor(foreground)
         }
-        Ink::AboveXor(foreground)
     }
 
     // The background's ink.
@@ -121,9 +122,10 @@ impl State {
     {
         let black = f.depth.black;
         if self.first_row {
-            return Ink::Solid(black);
+            Ink::Solid(black)
+        } else {
+            Ink::Above
         }
-        Ink::Above
     }
 
     // The ink of the pixel that a background run begins with where an insert is pending.

@@ -1,5 +1,5 @@
-// A walk over a stream's orders by their plans, without a target: the same plans as the decoder's, by `Room::order`, which the decoder
-// does not call, since one that two loops call would be slower for both. The plain decoder does, but no library for C has both loops.
+// A walk over a stream's orders by their plans, without a target: the same plans as the decoder's, by `Room::order`, which the plain
+// decoder calls too. The other decoder does not: its orders are each planned and painted by a function of their kind.
 ghost use Rattle.std.specs.Prelude.{◌≡◌, ◌≤◌};
 ghost use Rattle.definition.specs.Decode as decode;
 ghost use Rattle.definition.specs.Decode.{summary_of};
@@ -96,6 +96,7 @@ impl Walked {
 }
 
 // Orders from `from` on until number n of them, counted from 0, is completed, or to the stream's end or its refusal.
+// A loop, and no iterator, since how far an order reaches in the stream, its plan says, which needs the walk before it.
 pub(crate) fn walk_orders(src: &[u8], f: Frame, from: Walk, n: usize) -> Walked
     requires { from.pixels ≤ f.total }
     ensures { WalksOrders (frame_of f) src.now from n result }

@@ -7,7 +7,7 @@ use crate::order::Order;
 use crate::plain::order::order;
 use crate::state::{State, Stepped};
 
-// The decoder whose pixels are painted one by one.
+// The decoder whose pixels are painted one by one. Its loop is no iterator for the same reason as the other's.
 pub(crate) struct Plain;
 
 impl Decoder for Plain {
@@ -39,9 +39,10 @@ impl Decoder for Plain {
                         src,
                         frame: f,
                         state: t,
+                        kind: o.kind,
                         run_length: o.run_length,
                     };
-                    let r = order(dst, next, o.kind);
+                    let r = order(dst, next);
                     if r.ending.is_err() {
                         return r;
                     }

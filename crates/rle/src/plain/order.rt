@@ -8,7 +8,6 @@ ghost use Rattle.rle.specs.Carrying.{HasPicture, CarriesOut};
 ghost use Rattle.rle.specs.Operands.{HasOperands};
 
 use crate::frame::Frame;
-use crate::image::special_mask;
 use crate::kind::Kind;
 use crate::order::Order;
 use crate::paint::Ink;
@@ -16,19 +15,17 @@ use crate::pixel::read_pixel;
 use crate::plain::paint::{
     paint_bg_run, paint_dithered, paint_image, paint_mask, paint_masks, paint_run,
 };
-use crate::plan::foreground_size;
-use crate::run::white_or_black;
 use crate::span::Span;
 use crate::state::{State, Stepped};
 
 // The foreground that the order leaves: the one that stands first in its operands, if it reads one and its bytes are there, else the
 // state's.
-pub(crate) fn order_foreground(o: Order<'_>, kind: Kind) -> [u8; 3]
-    ensures { result ≡ plan.foreground_by o.entry.frame.depth.bytes (kind_in kind) o.entry.state.foreground (drop o.entry.state.pos o.entry.src.now) }
+pub(crate) fn order_foreground(o: Order<'_>) -> [u8; 3]
+    ensures { result ≡ plan.foreground_by o.entry.frame.depth.bytes (kind_in o.entry.kind) o.entry.state.foreground (drop o.entry.state.pos o.entry.src.now) }
 {
     let d = o.frame.depth.bytes;
     let pos = o.state.pos;
-    if kind.sets_foreground() && d <= o.src.len() - pos {
+    if o.kind.sets_foreground() && d <= o.src.len() - pos {
         return read_pixel(o.src, d, pos);
     }
     let before = o.state.foreground;
@@ -48,11 +45,11 @@ pub(crate) fn row_inks(f: Frame, s: State) -> (Ink, Ink)
 }
 
 // The order's n pixels, in the state with its foreground.
-pub(crate) fn paint_order(dst: &mut [u8], o: Order<'_>, kind: Kind, n: usize)
+pub(crate) fn paint_order(dst: &mut [u8], o: Order<'_>, n: usize)
     requires place { HasPicture o dst.old }
     requires room { o.state.pixels + n ≤ o.frame.total }
-    requires operands { HasOperands kind o.frame.depth.bytes n (length o.src.now - o.state.pos) }
-    ensures { Painted o.entry.frame.depth.bytes o.entry.frame.width (plan.kind_ink (frame_of o.entry.frame) (kind_in kind) o.entry.state.insert (ink_of (fg_of o.entry.state)) (ink_of (bg_of o.entry.frame o.entry.state)) (drop o.entry.state.pos o.entry.src.now)) o.entry.state.pixels n dst.old dst.new }
+    requires operands { HasOperands o.kind o.frame.depth.bytes n (length o.src.now - o.state.pos) }
+    ensures { Painted o.entry.frame.depth.bytes o.entry.frame.width (plan.kind_ink (frame_of o.entry.frame) (kind_in o.entry.kind) o.entry.state.insert (ink_of (fg_of o.entry.state)) (ink_of (bg_of o.entry.frame o.entry.state)) (drop o.entry.state.pos o.entry.src.now)) o.entry.state.pixels n dst.old dst.new }
 {
     if n == 0 {
         return;
@@ -68,14 +65,14 @@ pub(crate) fn paint_order(dst: &mut [u8], o: Order<'_>, kind: Kind, n: usize)
         pixels: n,
     };
     let (fg, bg) = row_inks(o.frame, o.state);
-    match kind {
+    match o.kind {
         Kind::BgRun => paint_bg_run(dst, span, o.state.insert.then_some(fg), bg),
         Kind::FgRun | Kind::SetFgRun => paint_run(dst, span, fg),
         Kind::FgBgImage | Kind::SetFgBgImage => {
-            paint_masks(src, pos + foreground_size(d, kind), dst, span, fg, bg)
+            paint_masks(src, pos + o.kind.foreground_size(d), dst, span, fg, bg)
         }
         Kind::SpecialFgBg1 | Kind::SpecialFgBg2 => {
-            paint_mask(dst, span, special_mask(kind), fg, bg)
+            paint_mask(dst, span, o.kind.special_mask(), fg, bg)
         }
         Kind::ColorRun => paint_run(dst, span, Ink::Solid(read_pixel(src, d, pos))),
         Kind::ColorImage => paint_image(src, pos, dst, span),
@@ -85,35 +82,36 @@ pub(crate) fn paint_order(dst: &mut [u8], o: Order<'_>, kind: Kind, n: usize)
             paint_dithered(dst, span, a, b)
         }
         Kind::White | Kind::Black => {
-            paint_run(dst, span, Ink::Solid(white_or_black(o.frame, kind)))
+            paint_run(dst, span, Ink::Solid(o.frame.white_or_black(o.kind)))
         }
         Kind::NoOrder => {}
     }
 }
 
-// An order, as one of this kind.
-pub(crate) fn order(dst: &mut [u8], o: Order<'_>, kind: Kind) -> Stepped
+// An order.
+pub(crate) fn order(dst: &mut [u8], o: Order<'_>) -> Stepped
     requires { HasPicture o dst.old }
-    ensures { CarriesOut o.entry (kind_in kind) dst.old dst.new result }
+    ensures { CarriesOut o.entry (kind_in o.entry.kind) dst.old dst.new result }
 {
     let s = o.state;
     let left = o.src.len() - s.pos;
-    let p = o.frame.room(s.pixels).order(kind, o.run_length, left);
+    let p = o.frame.room(s.pixels).order(o.kind, o.run_length, left);
     let mut t = s;
-    let foreground = order_foreground(o, kind);
+    let foreground = order_foreground(o);
     t.foreground = foreground;
     let with_foreground = Order {
         src: o.src,
         frame: o.frame,
         state: t,
+        kind: o.kind,
         run_length: o.run_length,
     };
-    paint_order(dst, with_foreground, kind, p.pixels);
+    paint_order(dst, with_foreground, p.pixels);
     t.pos = s.pos + p.read;
     t.pixels = s.pixels + p.pixels;
     // A refused order leaves the insert as it was, and is not counted.
     if p.ending.is_ok() {
-        t.insert = kind.leaves_insert();
+        t.insert = o.kind.leaves_insert();
         t.orders = s.orders + 1;
     }
     Stepped {

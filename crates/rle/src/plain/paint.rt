@@ -49,7 +49,7 @@ pub(crate) fn paint_mask(dst: &mut [u8], span: Span, mask: u8, fg: Ink, bg: Ink)
     for i in 0..span.pixels {
         let ink = if m % 2 == 1 { fg } else { bg };
         span.paint_pixel(dst, i, ink);
-        m = m / 2;
+        m /= 2;
     }
 }
 

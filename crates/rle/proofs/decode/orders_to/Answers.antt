@@ -9,7 +9,7 @@ use Rattle.rle.proofs.Stream.{invariant_at, order_read, order-refused, between_r
 use Rattle.rle.proofs.decode.orders_to.Goals as goal
 
 pub loop-t-init : goal.loop-t-init
-loop-t-init c = (c.requires.between_orders, le_refl _, c.requires.limit_le_width)
+loop-t-init c = (c.requires.between_orders, le_refl _, c.requires.first_row)
 
 pub returns-in-Ok-None : goal.returns-in-Ok-None
 returns-in-Ok-None c =
@@ -38,10 +38,13 @@ invariant_of-next-clause-place c =
 pub invariant_of-next-clause-holds : goal.invariant_of-next-clause-holds
 invariant_of-next-clause-holds c = rw c.moved.ensures (invariant_at _ c.loop-t.invariant.0.invariant)
 
-pub carry_out-r-requires : goal.carry_out-r-requires
-carry_out-r-requires c =
+pub invariant_of-next-clause-fixed : goal.invariant_of-next-clause-fixed
+invariant_of-next-clause-fixed c =
     let at = rw c.in-Ok-Some.field-0-is at c.in-Ok-Some.ensures in
-    record { place = rw c.loop-t.invariant.0.same c.requires.fits; fixed = at.fixed }
+    at.fixed
+
+pub carry_out-r-requires : goal.carry_out-r-requires
+carry_out-r-requires c = rw c.loop-t.invariant.0.same c.requires.fits
 
 pub returns-then-is_err : goal.returns-then-is_err
 returns-then-is_err c =

@@ -15,7 +15,7 @@ loop-f-init c =
 pub orders_to-r-requires : goal.orders_to-r-requires
 orders_to-r-requires c =
     let i = c.loop-f.invariant in
-    record { fits = rw i.0.same c.requires; between_orders = between_here _ _ _ _ _ i.0; limit_le_width = i.1 }
+    record { fits = rw i.0.same c.requires; between_orders = between_here _ _ _ _ _ i.0; first_row = i.1 }
 
 pub shape_of-dst-then-is_err : goal.shape_of-dst-then-is_err
 shape_of-dst-then-is_err c =

@@ -13,26 +13,26 @@ use Rattle.rle.proofs.order.Order.fg_run.Goals as goal
 
 pub span-requires : goal.span-requires
 span-requires c =
-    few_behind c.args.self.frame c.args.dst.now (ready c.args.self _ c.requires.place) (kind_in c.args.kind) _ c.fg_run-p.result
+    few_behind c.args.self.frame c.args.dst.now (ready c.args.self _ c.requires.place) (kind_in c.args.self.kind) _ c.fg_run-p.result
     (rw (c.room.ensures.0, c.room.ensures.1) at c.fg_run-p.ensures)
 
-pub paint_fg_run-requires : goal.paint_fg_run-requires
-paint_fg_run-requires c =
+pub paint_run-requires : goal.paint_run-requires
+paint_run-requires c =
     let o = c.args.self in
     let able = ready o _ c.requires.place in
     record {
       place =
-          has_place o.frame c.args.dst.now able (kind_in c.args.kind) _ c.fg_run-p.result
+          has_place o.frame c.args.dst.now able (kind_in c.args.self.kind) _ c.fg_run-p.result
           (rw (c.room.ensures.0, c.room.ensures.1) at c.fg_run-p.ensures) c.span.ensures;
       paintable =
           rw (c.fg_ink.ensures, c.with_foreground-t.ensures)
-          (fg_paintable c.span.ensures o.holds.row (foreground_of_depth able.frame o.holds.foreground _ (leaves (kind_in c.args.kind))));
+          (fg_paintable c.span.ensures o.holds.row (foreground_of_depth able.frame o.holds.foreground _ (leaves (kind_in c.args.self.kind))));
     }
 
 pub finished-requires : goal.finished-requires
 finished-requires c =
     fits_with c.with_foreground-t.ensures
-    (fits (ready c.args.self _ c.requires.place) (kind_in c.args.kind) _ c.fg_run-p.result
+    (fits (ready c.args.self _ c.requires.place) (kind_in c.args.self.kind) _ c.fg_run-p.result
     (rw (c.room.ensures.0, c.room.ensures.1) at c.fg_run-p.ensures) (omega arith))
 
 pub returns : goal.returns
@@ -40,7 +40,7 @@ returns c =
     let o = c.args.self in
     let f = frame_of o.frame in
     let new = c.with_foreground-t.ensures in
-    executes_finished _ _ _ (ready o _ c.requires.place) o.place (kind_in c.args.kind) c.fg_run-p.result
+    executes_finished _ _ _ (ready o _ c.requires.place) o.place (kind_in c.args.self.kind) c.fg_run-p.result
     (rw (c.room.ensures.0, c.room.ensures.1) at c.fg_run-p.ensures) new c.finished.ensures
     (painted_as (λ j _. fg-is o.state new c.fg_ink.ensures ∙ run_ink f (state_of f o.src.now c.args.dst.now o.state) c.requires.run j)
-    (next-painted c.span.ensures c.paint_fg_run.ensures))
+    (next-painted c.span.ensures c.paint_run.ensures))

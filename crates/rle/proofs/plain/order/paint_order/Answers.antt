@@ -4,23 +4,14 @@ use Rattle.definition.specs.Plan.{kind_ink}
 use Rattle.picture.proofs.Pixels.{zeros_of_depth}
 use Rattle.rle.proofs.Painting.{painted-zero, painted_as, read_of_depth}
 use Rattle.rle.proofs.Inks.{inserted-is}
-use Rattle.rle.proofs.Operands.{color_depth, own_place, own_fg, own_bg, own_insert, fg-painted, masks-painted, special_painted, pixel-painted}
+use Rattle.rle.proofs.Operands.{color_depth, own_bg, fg-painted, masks-painted, special_painted, pixel-painted}
 use Rattle.rle.proofs.plain.order.paint_order.Goals as goal
 
 pub returns-then-n-eq0 : goal.returns-then-n-eq0
 returns-then-n-eq0 c = painted-zero c.if-n-eq0.true
 
-pub paint_bg_run-requires : goal.paint_bg_run-requires
-paint_bg_run-requires c =
-    let o = c.args.o in
-    let room = c.requires.room in
-    let inks = c.row_inks-fg.ensures in
-    record { place = own_place o c.args.n room _ c.requires.place; insert = own_insert o c.args.n room inks.0 c.then_some.ensures; bg = own_bg o c.args.n room inks.1 }
-
-pub paint_run-requires : goal.paint_run-requires
-paint_run-requires c =
-    let o = c.args.o in
-    record { place = own_place o c.args.n c.requires.room _ c.requires.place; paintable = own_fg o c.args.n c.requires.room c.row_inks-fg.ensures.0 }
+pub paint_bg_run-requires-clause-bg : goal.paint_bg_run-requires-clause-bg
+paint_bg_run-requires-clause-bg c = own_bg c.args.o c.args.n c.requires.room c.row_inks-fg.ensures.1
 
 pub paint_masks-requires-clause-bg : goal.paint_masks-requires-clause-bg
 paint_masks-requires-clause-bg c = own_bg c.args.o c.args.n c.requires.room c.row_inks-fg.ensures.1

@@ -1,17 +1,11 @@
 -- `paint_dithered` meets its contract. The invariant: i pixels are painted. Assumes nothing.
 use Prim.Native.Nat.{◌%◌}
 use lib.Dec.{eqb}
-use native.Mathlib.Omega.{arith}
-use Rattle.rle.proofs.Painting.{painted-none, painted_more, one_as, one-solid, one_place, turn-pixel, dither_solid}
+use Rattle.rle.proofs.Painting.{painted-none, painted_more, one_as, one-solid, turn-pixel, dither_solid}
 use Rattle.rle.proofs.plain.paint.paint_dithered.Goals as goal
 
 pub loop-i-init : goal.loop-i-init
 loop-i-init c = painted-none
-
-pub write_pixel-requires : goal.write_pixel-requires
-write_pixel-requires c =
-    let s = c.args.span in
-    (s.low, s.high, omega (arith, one_place s _ c.loop-i.dst c.loop-i.i c.requires.place c.loop-i-test.true c.loop-i.auto.dst))
 
 pub loop-i-preserved : goal.loop-i-preserved
 loop-i-preserved c =

@@ -11,16 +11,16 @@ unfolding masks_for
 no_mask-requires c =
     let few : c.args.left ≤ 67108864 =
     elim c.then-n-self.branch [
-      | then-n-self-via-then-n-self w ↦ omega (arith, c.requires.left_bound w.if-n-self.true, c.args.n.few)
+      | then-n-self-via-then-n-self w ↦ omega (arith, c.requires.masks w.if-n-self.true, c.args.n.few)
       | then-n-self-via-else-n-self+then-left-self w ↦ omega (arith, w.if-left-self.true, c.args.self.few)
     ] in
-    (few, c.requires.read_bound)
+    (few, c.requires.operands)
 
 pub returns-then-n-self : goal.returns-then-n-self
 unfolding behind image_counts
 returns-then-n-self c =
     elim c.then-n-self.branch [
-      | then-n-self-via-then-n-self w ↦ rw (le-leb _ _ w.if-n-self.true, lt-leb _ _ (c.requires.left_bound w.if-n-self.true)) c.no_mask.ensures
+      | then-n-self-via-then-n-self w ↦ rw (le-leb _ _ w.if-n-self.true, lt-leb _ _ (c.requires.masks w.if-n-self.true)) c.no_mask.ensures
       | then-n-self-via-else-n-self+then-left-self w ↦ rw (lt-leb _ _ w.if-n-self.false, le-leb _ _ w.if-left-self.true) c.no_mask.ensures
     ]
 

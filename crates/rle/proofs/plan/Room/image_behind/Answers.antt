@@ -9,6 +9,6 @@ pub returns-then-masks-left : goal.returns-then-masks-left
 unfolding behind image_counts masks_for
 returns-then-masks-left c = rw (le-leb _ _ c.if-n-self.true, le-leb _ _ c.if-masks-left.true) c.complete.ensures
 
-pub cut_image-requires-clause-left_bound : goal.cut_image-requires-clause-left_bound
+pub cut_image-requires-clause-masks : goal.cut_image-requires-clause-masks
 unfolding masks_for
-cut_image-requires-clause-left_bound c = ⊎_elim (λ cut _. cut.1) (λ large h. absurd (omega arith)) c.else-n-self.either
+cut_image-requires-clause-masks c = ⊎_elim (λ cut _. cut.1) (λ large h. absurd (omega arith)) c.else-n-self.either

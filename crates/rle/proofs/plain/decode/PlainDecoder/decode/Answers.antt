@@ -37,6 +37,11 @@ invariant_of-next-clause-holds c =
     let l = c.loop-o in
     rw (insert_ended c.args.f l.s, row_ended c.args.f l.s) (invariant_at _ (invariant_marked c.args.f l.s l.invariant.invariant))
 
+pub invariant_of-next-clause-fixed : goal.invariant_of-next-clause-fixed
+invariant_of-next-clause-fixed c =
+    let at = rw c.in-Ok-Some.field-0-is at c.in-Ok-Some.ensures in
+    at.fixed
+
 pub order-r-requires : goal.order-r-requires
 order-r-requires c = rw c.loop-o.invariant.same c.requires
 
