@@ -4,7 +4,7 @@ use mathlib.Core.List.{List, [], ◌∷◌, ◌++◌}
 use mathlib.Core.Bool.{Bool, true, false}
 use Rattle.std.specs.Prelude.{Some}
 use Prim.Native.Nat.{ℕ, ◌+◌, ◌*◌, ◌-◌, ◌/◌, ◌%◌, ◌^◌, ◌≤◌, ◌<◌}
-use native.Mathlib.Nat.{add-zero, mul-le-mul_right}
+use native.Mathlib.Nat.{add-zero, add_assoc, mul-le-mul_right}
 use native.Mathlib.Numerals.{add-one}
 use native.Mathlib.Omega.{arith}
 use lib.Dec.{ltb, eqb}
@@ -198,13 +198,15 @@ inserted-painted {s} is some fg bg first rest =
 -- ---- masks and turns
 
 -- a mask's pixels, then those of the masks behind it
-pub image_later : (fg bg : Ink) (src : List ℕ) (m j : ℕ) → image_ink fg bg (drop m src) j ≡ image_ink fg bg src (m * 8 + j)
+pub image_later : (fg bg : Ink) (src : List ℕ) (from m j : ℕ) → image_ink fg bg (drop (from + m) src) j ≡ image_ink fg bg (drop from src) (m * 8 + j)
 unfolding image_ink
-image_later fg bg src m j =
+image_later fg bg src from m j =
     let q : m + j / 8 ≡ (m * 8 + j) / 8 = omega arith in
     let r : j % 8 ≡ (m * 8 + j) % 8 = omega arith in
     let mask =
-    get_or-drop m src (j / 8) 0 ∙ ap (λ (i : ℕ). get_or src i 0) q in
+    get_or-drop (from + m) src (j / 8) 0
+    ∙ ap (λ (i : ℕ). get_or src i 0) (add_assoc from m (j / 8) ∙ ap (λ (i : ℕ). from + i) q)
+    ∙ sym (get_or-drop from src ((m * 8 + j) / 8) 0) in
     λ t. mask_ink fg bg (mask t) (r t)
 
 -- a mask's bits, one after the other

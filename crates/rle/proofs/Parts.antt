@@ -11,7 +11,7 @@ use native.Mathlib.Omega.{arith}
 use lib.Dec.{leb}
 use lib.Bits.{bit_xor}
 use lib.ListN.{length, get_or, take, drop}
-use lib.Seq.{get_or-take, get_or-drop, length-take-le}
+use lib.Seq.{get_or-take, get_or-drop}
 use borrow.Author.Tests.{le-leb, leb-true}
 use Rattle.picture.specs.Pixels.{Pixel, pixel_at, OfDepth}
 use Rattle.definition.specs.Decode.{solid, above, dither_ink}
@@ -167,21 +167,23 @@ part_above span xs part place row e =
 -- ---- masks
 
 -- masks that stand in a part of the stream
-masked_source : (s q : List ℕ) (m D j : ℕ) → 1 ≤ D → j < m * 8 * D → masked_by (take m s) 0 D q j ≡ masked_by s 0 D q j
-masked_source s q m D j low h =
+masked_source : (s q : List ℕ) (from m D j : ℕ) → 1 ≤ D → j < m * 8 * D → masked_by (take (from + m - from) (drop from s)) 0 D q j ≡ masked_by s from D q j
+masked_source s q from m D j low h =
     let wide : j < m * (8 * D) = omega arith in
     let some : 0 < 8 * D = omega arith in
     let few : j / (8 * D) < m = (div-lt_iff_lt-mul some).1 wide in
     ap (λ (b : ℕ). inked b (turn q D j) (j / D % 8))
-    (get_or-take m s (0 + j / (8 * D)) 0 (omega (arith, few)))
+    (ap (λ (i : ℕ). get_or (take (from + m - from) (drop from s)) i 0) (zero-add (j / (8 * D)))
+    ∙ get_or-take (from + m - from) (drop from s) (j / (8 * D)) 0 (omega arith)
+    ∙ get_or-drop from s (j / (8 * D)) 0)
 
--- the m masks that s begins with, for pixels of D bytes
-module _ (D : ℕ) (s : List ℕ) (m : ℕ) (low : 1 ≤ D) (high : D ≤ 3) (p : Pixel) (enough : m ≤ length s) where
+-- m masks from place `from` of s on, for pixels of D bytes
+module _ (D : ℕ) (s : List ℕ) (from m : ℕ) (low : 1 ≤ D) (high : D ≤ 3) (p : Pixel) (enough : from + m ≤ length s) where
   abbrev source : List ℕ
-  source = take m s
+  source = take (from + m - from) (drop from s)
 
   source_there : there 0 m source ≡ true
-  source_there = is-there 0 m source (omega (arith, length-take-le m s enough))
+  source_there = is-there 0 m source (omega (arith, length_part from (from + m - from) s (omega arith)))
 
   -- in the part of xs that their pixels, and the bytes back there, have
   module _ (at : ℕ) (xs part : List ℕ) (fits : at + m * 8 * D ≤ length xs) where
@@ -199,44 +201,44 @@ module _ (D : ℕ) (s : List ℕ) (m : ℕ) (low : 1 ≤ D) (high : D ≤ 3) (p 
 
     pub part_masked : (back : Option ℕ) (row : ℕ) → row ≡ unwrap_or back 0 → row_there back at ≡ true
         → part ≡ run_where (tested back row) (row_bytes back row (masked_by source 0 D p)) row (m * 8 * D) (lent row)
-        → put_back (at - row) (at + m * 8 * D - (at - row)) xs part ≡ run (row_bytes back at (masked_by s 0 D p)) at (m * 8 * D) xs
+        → put_back (at - row) (at + m * 8 * D - (at - row)) xs part ≡ run (row_bytes back at (masked_by s from D p)) at (m * 8 * D) xs
     part_masked None row is back e =
         let b : at - 0 + 0 ≡ at = omega arith in
         rw is
-        (in_part (bytes (masked_by source 0 D p)) (bytes (masked_by s 0 D p)) (at - 0) (at + m * 8 * D - (at - 0)) 0 (m * 8 * D) xs part
-        (tested_holds None 0 zero-le refl) (omega arith) (omega arith) (λ x j h. masked_source s p m D j low h) (rw is at e)
-        ∙ ap (λ (a : ℕ). run (bytes (masked_by s 0 D p)) a (m * 8 * D) xs) b)
+        (in_part (bytes (masked_by source 0 D p)) (bytes (masked_by s from D p)) (at - 0) (at + m * 8 * D - (at - 0)) 0 (m * 8 * D) xs part
+        (tested_holds None 0 zero-le refl) (omega arith) (omega arith) (λ x j h. masked_source s p from m D j low h) (rw is at e)
+        ∙ ap (λ (a : ℕ). run (bytes (masked_by s from D p)) a (m * 8 * D) xs) b)
     part_masked (Some r) row is back e =
         let below : r ≤ at = leb-true r at back in
         rw is
-        (rows_run at r xs part (m * 8 * D) below fits (λ (b j : ℕ). bit_xor b (masked_by source 0 D p j)) (λ (b j : ℕ). bit_xor b (masked_by s 0 D p j))
-        (λ b j h. ap (λ (u : ℕ). bit_xor b u) (masked_source s p m D j low h)) (tested (Some r) r) (tested_holds (Some r) r below (le-leb r r (le_refl r))) (rw is at e))
+        (rows_run at r xs part (m * 8 * D) below fits (λ (b j : ℕ). bit_xor b (masked_by source 0 D p j)) (λ (b j : ℕ). bit_xor b (masked_by s from D p j))
+        (λ b j h. ap (λ (u : ℕ). bit_xor b u) (masked_source s p from m D j low h)) (tested (Some r) r) (tested_holds (Some r) r below (le-leb r r (le_refl r))) (rw is at e))
 
 -- the first n pixels of one mask, in the whole target
-pub few_masked : (D at n : ℕ) (xs ys s : List ℕ) (back : Option ℕ) → 1 ≤ D → D ≤ 3 → at + n * D ≤ length xs → n ≤ 8 → 0 < length s
+pub few_masked : (D at n : ℕ) (xs ys s : List ℕ) (from : ℕ) (back : Option ℕ) → 1 ≤ D → D ≤ 3 → at + n * D ≤ length xs → n ≤ 8 → from < length s
     → row_there back at ≡ true → (p : Pixel)
-    → ys ≡ run_where (both (row_there back at) (both (both (leb n 8) (there 0 1 (take 1 s))) (pixels_there D at n xs)))
-    (row_bytes back at (masked_by (take 1 s) 0 D p)) at (n * D) xs
-    → ys ≡ run (row_bytes back at (masked_by s 0 D p)) at (n * D) xs
-few_masked D at n xs ys s back low high fits few there-in row p e =
+    → ys ≡ run_where (both (row_there back at) (both (both (leb n 8) (there 0 1 (take (from + 1 - from) (drop from s)))) (pixels_there D at n xs)))
+    (row_bytes back at (masked_by (take (from + 1 - from) (drop from s)) 0 D p)) at (n * D) xs
+    → ys ≡ run (row_bytes back at (masked_by s from D p)) at (n * D) xs
+few_masked D at n xs ys s from back low high fits few there-in row p e =
     e ∙ ap (λ (t : Bool). run_where t (row_bytes back at (masked_by one 0 D p)) at (n * D) xs) holds ∙ source_is back
   where
     one : List ℕ
-    one = take 1 s
+    one = take (from + 1 - from) (drop from s)
 
     holds : both (row_there back at) (both (both (leb n 8) (there 0 1 one)) (pixels_there D at n xs)) ≡ true
     holds =
         both_hold _ _ row
-        (both_hold _ _ (both_hold _ _ (le-leb n 8 few) (is-there 0 1 one (omega (arith, length-take-le 1 s there-in))))
+        (both_hold _ _ (both_hold _ _ (le-leb n 8 few) (is-there 0 1 one (omega (arith, length_part from (from + 1 - from) s (omega arith)))))
         (pixels-there D at n xs low high fits))
 
-    same_mask : (j : ℕ) → j < n * D → masked_by one 0 D p j ≡ masked_by s 0 D p j
-    same_mask j h = masked_source s p 1 D j low (omega (arith, mul-le-mul_right {m = n} {n = 8} D few))
+    same_mask : (j : ℕ) → j < n * D → masked_by one 0 D p j ≡ masked_by s from D p j
+    same_mask j h = masked_source s p from 1 D j low (omega (arith, mul-le-mul_right {m = n} {n = 8} D few))
 
-    source_is : (b : Option ℕ) → run (row_bytes b at (masked_by one 0 D p)) at (n * D) xs ≡ run (row_bytes b at (masked_by s 0 D p)) at (n * D) xs
-    source_is None = run_cong (bytes (masked_by one 0 D p)) (bytes (masked_by s 0 D p)) at (n * D) xs same_mask
+    source_is : (b : Option ℕ) → run (row_bytes b at (masked_by one 0 D p)) at (n * D) xs ≡ run (row_bytes b at (masked_by s from D p)) at (n * D) xs
+    source_is None = run_cong (bytes (masked_by one 0 D p)) (bytes (masked_by s from D p)) at (n * D) xs same_mask
     source_is (Some r) =
-        run_cong (xored at r (masked_by one 0 D p)) (xored at r (masked_by s 0 D p)) at (n * D) xs
+        run_cong (xored at r (masked_by one 0 D p)) (xored at r (masked_by s from D p)) at (n * D) xs
         (λ j h. ap (λ (b : ℕ). bit_xor (get_or (run (xored at r (masked_by one 0 D p)) at j xs) (at + j - r) 0) b) (same_mask j h))
 
 -- the row above is there where masks look at it
@@ -246,10 +248,10 @@ back_there span Above of = le-leb _ _ (mul-le-mul_right {m = span.width} {n = sp
 back_there span (AboveXor p) of = le-leb _ _ (mul-le-mul_right {m = span.width} {n = span.start} span.bytes of.0)
 
 -- what masks write are pixels with the inks of their bits
-pub masks_painted : (span : Span) (xs s : List ℕ) (ink : CodeInk) → HasPlace span xs → Paintable span ink → HasColor ink
-    → Paints span (image_ink (ink_of ink) (zero_ink ink) s) xs
-    (run (row_bytes (back_and_color span ink).0 (span.start * span.bytes) (masked_by s 0 span.bytes (back_and_color span ink).1)) (span.start * span.bytes) (span.pixels * span.bytes) xs)
-masks_painted span xs s (Solid p) place of color = first-painted span.bytes span.width span.start span.pixels xs span.low span.high place s 0 p of
-masks_painted span xs s Above place of color = absurd color
-masks_painted span xs s (AboveXor p) place of color =
-    later_painted span.bytes span.width span.start span.pixels xs span.low span.high place span.wide of.0 s 0 p of.1
+pub masks_painted : (span : Span) (xs s : List ℕ) (from : ℕ) (ink : CodeInk) → HasPlace span xs → Paintable span ink → HasColor ink
+    → Paints span (image_ink (ink_of ink) (zero_ink ink) (drop from s)) xs
+    (run (row_bytes (back_and_color span ink).0 (span.start * span.bytes) (masked_by s from span.bytes (back_and_color span ink).1)) (span.start * span.bytes) (span.pixels * span.bytes) xs)
+masks_painted span xs s from (Solid p) place of color = first-painted span.bytes span.width span.start span.pixels xs span.low span.high place s from p of
+masks_painted span xs s from Above place of color = absurd color
+masks_painted span xs s from (AboveXor p) place of color =
+    later_painted span.bytes span.width span.start span.pixels xs span.low span.high place span.wide of.0 s from p of.1

@@ -35,7 +35,7 @@ impl<'a> Order<'a> {
         let p = self.frame.room(s.pixels).run(Length { pixels: 8 });
         let masks = [self.kind.special_mask()];
         s.span(self.frame, p.pixels)
-            .paint_whole_masks(&masks, dst, s.fg_ink());
+            .paint_whole_masks(&masks, 0, dst, s.fg_ink());
         s.finished(p, self.kind)
     }
 

@@ -39,11 +39,13 @@ pub(crate) fn xor_rows(dst: &mut [u8], d: usize, at: usize, n: usize, row: usize
     xor_back(&mut dst[from..end], d, row, n, row, p);
 }
 
-// 8 * m pixels of d bytes from dst[at] on, by the masks that src begins with, in the first row where `back` is none. It stays a call, since it
+// 8 * m pixels of d bytes from dst[at] on, by the masks from src[from] on, in the first row where `back` is none. It stays a call, since it
 // has two callers, and takes numbers: as a call that hands span and ink over, 16 pixels of one byte take 228 instructions, and so 205.
+// The place of the masks goes with src: where each caller hands a slice on, color images of few pixels take 76 instructions, and so 74.
 #[inline(never)]
 pub(crate) fn mask_rows(
     src: &[u8],
+    from: usize,
     dst: &mut [u8],
     d: usize,
     at: usize,
@@ -52,14 +54,24 @@ pub(crate) fn mask_rows(
     p: [u8; 3],
 )
     requires depth { (1 ≤ d) × (d ≤ 3) }
-    requires fits { (m ≤ length src.now) × (at + m * 8 * d ≤ length dst.old) }
+    requires fits { (from + m ≤ length src.now) × (at + m * 8 * d ≤ length dst.old) }
     requires back { row_there back at ≡ true }
-    ensures { dst.new ≡ run (row_bytes back at (masked_by src.now 0 d p)) at (m * 8 * d) dst.old }
+    ensures { dst.new ≡ run (row_bytes back at (masked_by src.now from d p)) at (m * 8 * d) dst.old }
 {
     let row = back.unwrap_or(0);
     let start = at - row;
     let end = at + m * 8 * d;
-    masks(&src[..m], 0, &mut dst[start..end], d, row, back, m, p);
+    let last = from + m;
+    masks(
+        &src[from..last],
+        0,
+        &mut dst[start..end],
+        d,
+        row,
+        back,
+        m,
+        p,
+    );
 }
 
 impl Span {
@@ -155,6 +167,19 @@ impl Span {
         self.paint_many(dst, ink)
     }
 
+    // A foreground run. Without the test for no pixels, a first row's run of few pixels of one byte takes 95 instructions, and so 83.
+    #[inline(always)]
+    pub(crate) fn paint_fg_run(self, dst: &mut [u8], ink: Ink)
+        requires place { HasPlace self dst.old }
+        requires paintable { Paintable self ink }
+        ensures { Paints self (λ _. ink_of ink) dst.old dst.new }
+    {
+        if self.pixels == 0 {
+            return;
+        }
+        self.paint_run(dst, ink)
+    }
+
     // A background run, the first pixel with the inserted ink, if there is one. Its other pixels take the way for many: a test for a single
     // one takes more instructions than it saves.
     #[inline(always)]
@@ -191,34 +216,44 @@ impl Span {
         }
     }
 
-    // By whole masks, those that src begins with: where a bit is 1 with the ink, where it is 0 with what the ink is without its color.
+    // By whole masks, those from src[from] on: where a bit is 1 with the ink, where it is 0 with what the ink is without its color.
     #[inline(always)]
-    pub(crate) fn paint_whole_masks(self, src: &[u8], dst: &mut [u8], ink: Ink)
+    pub(crate) fn paint_whole_masks(self, src: &[u8], from: usize, dst: &mut [u8], ink: Ink)
         requires place { HasPlace self dst.old }
         requires paintable { Paintable self ink × HasColor ink }
-        requires masks { (self.pixels % 8 ≡ 0) × (self.pixels / 8 ≤ length src.now) }
-        ensures { Paints self (image_ink (ink_of ink) (zero_ink ink) src.now) dst.old dst.new }
+        requires masks { (self.pixels % 8 ≡ 0) × (from + self.pixels / 8 ≤ length src.now) }
+        ensures { Paints self (image_ink (ink_of ink) (zero_ink ink) (drop from src.now)) dst.old dst.new }
     {
         let d = self.bytes;
         let (back, p) = self.back_and_color(ink);
-        mask_rows(src, dst, d, self.start * d, self.pixels / 8, back, p);
+        mask_rows(src, from, dst, d, self.start * d, self.pixels / 8, back, p);
     }
 
-    // By one mask, the first of src, of which it has eight pixels at most. Here the whole target is lent: for so few pixels a part would take
+    // By one mask, src[from], of which it has eight pixels at most. Here the whole target is lent: for so few pixels a part would take
     // longer than its tests.
-    pub(crate) fn paint_mask_part(self, src: &[u8], dst: &mut [u8], ink: Ink)
+    pub(crate) fn paint_mask_part(self, src: &[u8], from: usize, dst: &mut [u8], ink: Ink)
         requires place { HasPlace self dst.old }
         requires paintable { Paintable self ink × HasColor ink }
-        requires mask { (self.pixels ≤ 8) × (0 < length src.now) }
-        ensures { Paints self (image_ink (ink_of ink) (zero_ink ink) src.now) dst.old dst.new }
+        requires mask { (self.pixels ≤ 8) × (from < length src.now) }
+        ensures { Paints self (image_ink (ink_of ink) (zero_ink ink) (drop from src.now)) dst.old dst.new }
     {
         let d = self.bytes;
         let (back, p) = self.back_and_color(ink);
-        mask_part(&src[..1], 0, dst, d, self.start * d, back, self.pixels, p);
+        let last = from + 1;
+        mask_part(
+            &src[from..last],
+            0,
+            dst,
+            d,
+            self.start * d,
+            back,
+            self.pixels,
+            p,
+        );
     }
 
-    // Eight pixels to a mask, by the masks from src[from] on: a place that lies behind the stream where it has no pixels to paint. A test for
-    // that, as a slice needs it, makes 204 instructions of 182 for an image of few pixels.
+    // Eight pixels to a mask, by the masks from src[from] on. That place may lie behind the stream where there are no pixels to paint: with
+    // a test for it, as a slice from there needs, an image of few pixels takes 204 instructions, and so 182.
     pub(crate) fn paint_masks(self, src: &[u8], from: usize, dst: &mut [u8], ink: Ink)
         requires place { HasPlace self dst.old }
         requires paintable { Paintable self ink × HasColor ink }
@@ -227,16 +262,14 @@ impl Span {
     {
         let m = self.pixels / 8;
         if 0 < m {
-            self.part(0, m * 8)
-                .paint_whole_masks(&src[from..], dst, ink);
+            self.part(0, m * 8).paint_whole_masks(src, from, dst, ink);
         }
         let rest = self.pixels % 8;
         if rest == 0 {
             return;
         }
-        let last = from + m;
         self.part(m * 8, rest)
-            .paint_mask_part(&src[last..], dst, ink);
+            .paint_mask_part(src, from + m, dst, ink);
     }
 
     // An even number of pixels, a and b by turns.
@@ -252,7 +285,7 @@ impl Span {
         fill_pairs(&mut dst[at..end], d, 0, self.pixels / 2, a, b);
     }
 
-    // With the pixels of the stream from src[pos] on. Handed the slice that begins there, it takes 78 instructions for 74 with few pixels.
+    // With the pixels of the stream from src[pos] on.
     pub(crate) fn paint_image(self, src: &[u8], pos: usize, dst: &mut [u8])
         requires place { HasPlace self dst.old }
         requires operands { pos + self.pixels * self.bytes ≤ length src.now }

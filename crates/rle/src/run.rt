@@ -41,7 +41,7 @@ impl<'a> Order<'a> {
             .room(s.pixels)
             .fg_run(self.kind, self.run_length, left);
         let t = self.with_foreground();
-        s.span(self.frame, p.pixels).paint_run(dst, t.fg_ink());
+        s.span(self.frame, p.pixels).paint_fg_run(dst, t.fg_ink());
         t.finished(p, self.kind)
     }
 

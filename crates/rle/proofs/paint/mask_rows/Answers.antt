@@ -6,4 +6,4 @@ pub returns : goal.returns
 returns c =
     let a = c.args in
     let r = c.requires in
-    part_masked a.d a.src.now a.m r.depth.0 r.depth.1 a.p r.fits.0 a.at a.dst.now _ r.fits.1 a.back _ c.unwrap_or-row.ensures r.back c.masks.ensures
+    part_masked a.d a.src.now a.from a.m r.depth.0 r.depth.1 a.p r.fits.0 a.at a.dst.now _ r.fits.1 a.back _ c.unwrap_or-row.ensures r.back c.masks.ensures

@@ -16,8 +16,8 @@ span-requires c =
     few_behind c.args.self.frame c.args.dst.now (ready c.args.self _ c.requires.place) (kind_in c.args.self.kind) _ c.fg_run-p.result
     (rw (c.room.ensures.0, c.room.ensures.1) at c.fg_run-p.ensures)
 
-pub paint_run-requires : goal.paint_run-requires
-paint_run-requires c =
+pub paint_fg_run-requires : goal.paint_fg_run-requires
+paint_fg_run-requires c =
     let o = c.args.self in
     let able = ready o _ c.requires.place in
     record {
@@ -43,4 +43,4 @@ returns c =
     executes_finished _ _ _ (ready o _ c.requires.place) o.place (kind_in c.args.self.kind) c.fg_run-p.result
     (rw (c.room.ensures.0, c.room.ensures.1) at c.fg_run-p.ensures) new c.finished.ensures
     (painted_as (λ j _. fg-is o.state new c.fg_ink.ensures ∙ run_ink f (state_of f o.src.now c.args.dst.now o.state) c.requires.run j)
-    (next-painted c.span.ensures c.paint_run.ensures))
+    (next-painted c.span.ensures c.paint_fg_run.ensures))
