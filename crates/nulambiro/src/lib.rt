@@ -1,7 +1,7 @@
 // The library for C: include/nulambiro.h declares these functions and says what they do. C's parameters are numbers, one by one.
 //
-// What C is told is arrays of numbers, which functions make, and no From: neither an array nor what it tells of is a type of this crate, and
-// their layout belongs to no other.
+// What C is told is arrays of numbers, which functions make, and no From: neither an array nor what it tells of is a type of this crate,
+// and their layout belongs to no other.
 #![tactic(auto)]
 
 ghost use Rattle.std.specs.Prelude.{◌≡◌, [], ◌∷◌, length};

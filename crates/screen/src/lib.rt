@@ -1,6 +1,6 @@
 // A row to show: a part of the new picture, or of the one on screen.
 //
-// What it is, is defined in specs/Rows.antt. The numbers of the pictures come one by one, as from C, which is told of `part_to_show`'s part.
+// What it is, is defined in specs/Rows.antt. The numbers of the pictures come one by one, as from C, which calls `part_to_show`.
 #![tactic(auto)]
 
 ghost use Rattle.std.specs.Prelude.{◌≡◌};

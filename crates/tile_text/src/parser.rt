@@ -150,7 +150,7 @@ impl Parser {
         Some(())
     }
 
-    // Reads the byte b; none where no tile text has it there, and nothing changes. That is the one refusal here, so it needs no error value.
+    // Reads the byte b; none where no tile text has it there, and nothing changes. That is the one refusal here: it needs no error value.
     #[tactic(auto, unfolding(crate::specs::Parse::next, crate::specs::Parse::in_key, crate::specs::Parse::after_key))]
     fn next(&mut self, b: u8) -> Option<()>
         ensures state { self.new ≡ unwrap_or (parse.next self.old b) self.old }
