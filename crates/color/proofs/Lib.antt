@@ -1,7 +1,6 @@
 pub mod Channels
 pub mod Whites
 pub mod Triples
-pub mod Formats
 pub mod Lowest
 pub mod Every
 pub mod Bytes
