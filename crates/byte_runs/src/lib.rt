@@ -38,8 +38,8 @@ pub fn put_pixel<const D: usize>(dst: &mut [u8], at: usize, back: Option<usize>,
     }
 }
 
-// The first D bytes of a pixel over and over, as often as N bytes hold them. By `from_fn`, with a remainder for each byte, orders of 16 pixels
-// take some 475 instructions more at 24 bpp.
+// The first D bytes of a pixel over and over, as often as N bytes hold them. By `from_fn`, with a remainder for each byte, orders of 16
+// pixels take some 475 instructions more at 24 bpp.
 pub fn pattern<const D: usize, const N: usize>(pixel: [u8; 3]) -> [u8; N]
     ensures { is_depth D ≡ true → (k : ℕ) → k < N / D * D → slice_index result k ≡ turn pixel D k }
 {

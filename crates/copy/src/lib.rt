@@ -1,5 +1,5 @@
-// Copies of bytes into a target, from a row back or from another slice. Target, place, length and row go on one by one: a struct that has the
-// target lent would be made for one call.
+// Copies of bytes into a target, from a row back or from another slice. Target, place, length and row go on one by one: a struct that has
+// the target lent would be made for one call.
 #![tactic(auto)]
 
 ghost use Rattle.std.specs.Prelude.{◌≡◌, ◌+◌, ◌≤◌, ◌<◌, leb, length};

@@ -1,7 +1,6 @@
 // Pixels by masks, the lowest bit first: where the bit is 1 the color (the first d bytes of it), where it is 0 zeros; in the first row as
-// they are, later exclusive-or the bytes so many places back. Callers have the depth and the places as numbers, and every number is allowed.
-// Target, place, row and color go on one by one: a struct that has the target lent would be made for one call, since each step has another
-// place.
+// they are, later exclusive-or the bytes so many places back. Callers have the depth and the places as numbers, and every number is
+// allowed. Target, place, row and color go on one by one: a struct that has the target lent would be made for one call.
 #![tactic(auto)]
 
 ghost use Rattle.std.specs.Prelude.{◌≡◌, ◌+◌, ◌*◌, ◌≤◌, leb, length};
@@ -98,7 +97,8 @@ pub fn mask_part(
     if 8 < n || d == 0 || 3 < d {
         return;
     }
-    // n is at most 8 and d at most 3, so that the product cannot wrap. By `pixels_fit` a mask of 1 or 4 pixels takes 8 to 11 instructions more.
+    // n is at most 8 and d at most 3, so that the product cannot wrap; by `pixels_fit` a mask of 1 or 4 pixels takes up to 11 instructions
+    // more
     if dst.len() < at || dst.len() - at < n * d {
         return;
     }

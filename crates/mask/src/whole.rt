@@ -8,8 +8,8 @@ use byte_runs::{byte_back, pattern};
 // lower, so that none is a sign bit, which the compiler would test in a way of its own and not by vector code.
 const BITS: [u16; 8] = [256, 512, 1024, 2048, 16, 32, 64, 128];
 
-// For each byte the test of its pixel's bit. By an index: for `from_fn` the closure has to say by clauses of its own what i and D are, and is
-// longer.
+// For each byte the test of its pixel's bit. By an index: for `from_fn` the closure has to say by clauses of its own what i and D are,
+// and is longer.
 fn tests<const D: usize, const N: usize>() -> [u16; N]
     requires { Eight D N }
     ensures { (i : ℕ) → i < N → get_or result i 0 ≡ get_or BITS (i / D) 0 }
