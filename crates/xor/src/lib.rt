@@ -1,5 +1,6 @@
 // Pixels exclusive-or the pixels a row back: long runs by blocks of 48 bytes, which hold whole pixels of one, two and three bytes.
-// Callers have the depth and the places as numbers, and every number is allowed.
+// Callers have the depth and the places as numbers, and every number is allowed: a struct of them with the target lent would be made for
+// one call.
 #![tactic(auto)]
 
 ghost use Rattle.std.specs.Prelude.{◌≡◌, ℕ, ◌+◌, ◌*◌, ◌%◌, ◌≤◌, ◌<◌, leb, length, get_or};
@@ -8,7 +9,8 @@ ghost use Rattle.byte_runs.specs.Runs.{Depth, run, run_where, both, pixels_there
 use byte_runs::{pattern, pixels_fit, put_pixel};
 
 // One block, read whole before it is written: by an index, since a proof knows nothing of an array's elements once `iter_mut().zip` has lent
-// them. Inlined, so that the compiler keeps the pattern in registers.
+// them, and by `array::from_fn` it did not close: that the closure stays the same from call to call is not known there. Inlined, so that
+// the compiler keeps the pattern in registers.
 #[inline(always)]
 fn xor_block(dst: &mut [u8], to: usize, from: usize, w: &[u8; 48])
     requires { (to + 48 ≤ length dst.old) × (from + 48 ≤ length dst.old) }
