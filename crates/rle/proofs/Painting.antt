@@ -158,18 +158,18 @@ first-painted D w k ink xs ys o =
     record { pixels = e.pixels; rest = e.rest }
 
 -- two targets that held the same, and are painted the same, hold the same
-pub painted_same : (s : Span) {ink : ℕ → Ink} {before₁ after₁ before₂ after₂ : List ℕ} → HasPlace s before₁ → before₁ ≡ before₂
+pub painted_same : {D w k n : ℕ} {ink : ℕ → Ink} {before₁ after₁ before₂ after₂ : List ℕ} → D ≤ 3 → (k + n) * D ≤ length before₁ → before₁ ≡ before₂
     → length after₁ ≡ length before₁ → length after₂ ≡ length before₂
-    → Paints s ink before₁ after₁ → Paints s ink before₂ after₂ → after₁ ≡ after₂
-painted_same s {ink} {before₁} {after₁} {before₂} {after₂} place e l₁ l₂ p q =
-    let m = (s.start + s.pixels) * s.bytes in
-    let pixels : pixels_of s.bytes (s.start + s.pixels) after₁ ≡ pixels_of s.bytes (s.start + s.pixels) after₂ =
-    p.pixels ∙ ap (λ (l : List ℕ). paint s.width ink s.pixels (pixels_of s.bytes s.start l)) e ∙ sym q.pixels in
+    → Painted D w ink k n before₁ after₁ → Painted D w ink k n before₂ after₂ → after₁ ≡ after₂
+painted_same {D} {w} {k} {n} {ink} {before₁} {after₁} {before₂} {after₂} high place e l₁ l₂ p q =
+    let m = (k + n) * D in
+    let pixels : pixels_of D (k + n) after₁ ≡ pixels_of D (k + n) after₂ =
+    p.pixels ∙ ap (λ (l : List ℕ). paint w ink n (pixels_of D k l)) e ∙ sym q.pixels in
     let fits : m ≤ length after₂ = rw (l₂, ← e) place in
     let front : take m after₁ ≡ take m after₂ =
-    sym (bytes-pixels s.bytes (s.start + s.pixels) after₁ s.high (rw l₁ place))
-    ∙ ap (λ (ps : List Pixel). bytes_of s.bytes ps) pixels
-    ∙ bytes-pixels s.bytes (s.start + s.pixels) after₂ s.high fits in
+    sym (bytes-pixels D (k + n) after₁ high (rw l₁ place))
+    ∙ ap (λ (ps : List Pixel). bytes_of D ps) pixels
+    ∙ bytes-pixels D (k + n) after₂ high fits in
     let back : drop m after₁ ≡ drop m after₂ = p.rest ∙ ap (λ (l : List ℕ). drop m l) e ∙ sym q.rest in
     sym (take-append-drop m after₁) ∙ (λ i. front i ++ back i) ∙ take-append-drop m after₂
 

@@ -6,4 +6,4 @@ pub returns : goal.returns
 returns c =
     let first = c.paint_dithered in
     let second = c.paint_dithered-2 in
-    painted_same c.args.span c.requires.place c.requires.same first.auto.dst second.auto.dst first.ensures second.ensures
+    painted_same c.args.span.high c.requires.place c.requires.same first.auto.dst second.auto.dst first.ensures second.ensures
