@@ -233,7 +233,6 @@ pub dither_solid : {p : Pixel} (a b : Pixel) (j : ℕ) → p ≡ pick (eqb (j % 
 unfolding dither_ink
 dither_solid a b j e = ap solid e
 
-pub image-solid : {p : Pixel} (D : ℕ) (src : List ℕ) (a j : ℕ) → p ≡ first_pixel D (drop (a + j * D) src)
-    → solid p ≡ solid (pixel_at D (drop a src) j)
+pub image-solid : {p : Pixel} (D : ℕ) (src : List ℕ) (j : ℕ) → p ≡ first_pixel D (drop (j * D) src) → solid p ≡ solid (pixel_at D src j)
 unfolding pixel_at
-image-solid D src a j e = ap solid (e ∙ ap (λ (l : List ℕ). first_pixel D l) (sym (drop-drop (j * D) a src)))
+image-solid D src j e = ap solid e

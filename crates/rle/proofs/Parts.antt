@@ -11,7 +11,7 @@ use native.Mathlib.Omega.{arith}
 use lib.Dec.{leb}
 use lib.Bits.{bit_xor}
 use lib.ListN.{length, get_or, take, drop}
-use lib.Seq.{get_or-take, get_or-drop}
+use lib.Seq.{get_or-take, get_or-drop, length-take-le}
 use borrow.Author.Tests.{le-leb, leb-true}
 use Rattle.picture.specs.Pixels.{Pixel, pixel_at, OfDepth}
 use Rattle.definition.specs.Decode.{solid, above, dither_ink}
@@ -72,24 +72,20 @@ module _ (span : Span) (xs part : List ℕ) (place : HasPlace span xs) where
   all_own : n * D ≤ length own
   all_own = omega (arith, length_part (k * D) size xs inside)
 
-  pub part_copied : (s : List ℕ) (from : ℕ) → from + n * D ≤ length s
-      → part ≡ run_where (both (there 0 (n * D) (take (from + n * D - from) (drop from s))) (there 0 (n * D) own))
-      (taken (take (from + n * D - from) (drop from s)) 0) 0 (n * D) own
-      → Painted D w (λ j. solid (pixel_at D (drop from s) j)) k n xs (put_back (k * D) size xs part)
-  part_copied s from there-in e =
-      let m : ℕ = from + n * D - from in
-      let em : from + n * D - from ≡ n * D = omega arith in
-      let source : List ℕ = take m (drop from s) in
+  pub part_copied : (s : List ℕ) → n * D ≤ length s
+      → part ≡ run_where (both (there 0 (n * D) (take (n * D) s)) (there 0 (n * D) own)) (taken (take (n * D) s) 0) 0 (n * D) own
+      → Painted D w (λ j. solid (pixel_at D s j)) k n xs (put_back (k * D) size xs part)
+  part_copied s enough e =
+      let source : List ℕ = take (n * D) s in
       let holds : both (there 0 (n * D) source) (there 0 (n * D) own) ≡ true =
-      both_hold _ _ (is-there 0 (n * D) source (omega (arith, length_part from m s (omega arith)))) (is-there 0 (n * D) own (omega (arith, all_own))) in
-      subst (λ (ys : List ℕ). Painted D w (λ j. solid (pixel_at D (drop from s) j)) k n xs ys)
+      both_hold _ _ (is-there 0 (n * D) source (omega (arith, length-take-le (n * D) s enough))) (is-there 0 (n * D) own (omega (arith, all_own))) in
+      subst (λ (ys : List ℕ). Painted D w (λ j. solid (pixel_at D s j)) k n xs ys)
       (sym
-      (in_part (taken source 0) (taken s from) (k * D) size 0 (n * D) xs part holds inside (omega arith)
-      (λ x j h.
-      ap (λ (i : ℕ). get_or source i 0) (zero-add j) ∙ get_or-take m (drop from s) j 0 (omega arith) ∙ get_or-drop from s j 0)
+      (in_part (taken source 0) (taken s 0) (k * D) size 0 (n * D) xs part holds inside (omega arith)
+      (λ x j h. get_or-take (n * D) s (0 + j) 0 (omega arith))
       e
-      ∙ ap (λ (at : ℕ). run (taken s from) at (n * D) xs) (add-zero (k * D))))
-      (image-painted D w k n xs span.low span.high place s from)
+      ∙ ap (λ (at : ℕ). run (taken s 0) at (n * D) xs) (add-zero (k * D))))
+      (image-painted D w k n xs span.low span.high place s 0)
 
   -- two colors by turns, in pairs
   pub part_paired : (p q : Pixel) (pairs : ℕ) → n ≡ pairs * 2 → OfDepth D p → OfDepth D q

@@ -22,7 +22,7 @@ impl<'a> Order<'a> {
             return s.finished(p, Kind::ColorImage);
         }
         s.span(self.frame, p.pixels)
-            .paint_image(self.src, s.pos, dst);
+            .paint_image(&self.src[s.pos..], dst);
         s.finished(p, Kind::ColorImage)
     }
 

@@ -285,16 +285,15 @@ impl Span {
         fill_pairs(&mut dst[at..end], d, 0, self.pixels / 2, a, b);
     }
 
-    // With the pixels of the stream from src[pos] on.
-    pub(crate) fn paint_image(self, src: &[u8], pos: usize, dst: &mut [u8])
+    // With the pixels that src begins with.
+    pub(crate) fn paint_image(self, src: &[u8], dst: &mut [u8])
         requires place { HasPlace self dst.old }
-        requires operands { pos + self.pixels * self.bytes ≤ length src.now }
-        ensures { Paints self (λ j. decode.Ink.solid (pixel_at self.bytes (drop pos src.now) j)) dst.old dst.new }
+        requires operands { self.pixels * self.bytes ≤ length src.now }
+        ensures { Paints self (λ j. decode.Ink.solid (pixel_at self.bytes src.now j)) dst.old dst.new }
     {
         let len = self.pixels * self.bytes;
-        let last = pos + len;
         let at = self.start * self.bytes;
         let end = at + len;
-        copy_in(&src[pos..last], 0, &mut dst[at..end], 0, len);
+        copy_in(&src[..len], 0, &mut dst[at..end], 0, len);
     }
 }

@@ -81,7 +81,7 @@ impl<'a> Order<'a> {
         s.finished(p, Kind::DitheredRun)
     }
 
-    // One white or black pixel, or no order. One function for them: as arms of a jump they would be mispredicted half the time.
+    // One white or black pixel, or no order. One function for them: each paints one pixel at most, and they differ in its color.
     pub(crate) fn one_pixel(self, dst: &mut [u8]) -> Stepped
         requires place { HasPicture self dst.old }
         requires pixel { (self.kind ≡ White) ⊎ ((self.kind ≡ Black) ⊎ (self.kind ≡ NoOrder)) }

@@ -64,13 +64,13 @@ pub(crate) fn dithered_beside(a: &mut [u8], b: &mut [u8], span: Span, p: [u8; 3]
     plain::paint_dithered(b, span, p, q);
 }
 
-// The pixels of the stream from src[pos] on.
-pub(crate) fn image_beside(src: &[u8], pos: usize, a: &mut [u8], b: &mut [u8], span: Span)
+// The pixels that src begins with.
+pub(crate) fn image_beside(src: &[u8], a: &mut [u8], b: &mut [u8], span: Span)
     requires place { HasPlace span a.old }
-    requires operands { pos + span.pixels * span.bytes ≤ length src.now }
+    requires operands { span.pixels * span.bytes ≤ length src.now }
     requires same { a.old ≡ b.old }
     ensures { a.new ≡ b.new }
 {
-    span.paint_image(src, pos, a);
-    plain::paint_image(src, pos, b, span);
+    span.paint_image(src, a);
+    plain::paint_image(src, b, span);
 }

@@ -75,7 +75,7 @@ pub(crate) fn paint_order(dst: &mut [u8], o: Order<'_>, n: usize)
             paint_mask(dst, span, o.kind.special_mask(), fg, bg)
         }
         Kind::ColorRun => paint_run(dst, span, Ink::Solid(read_pixel(src, d, pos))),
-        Kind::ColorImage => paint_image(src, pos, dst, span),
+        Kind::ColorImage => paint_image(&src[pos..], dst, span),
         Kind::DitheredRun => {
             let a = read_pixel(src, d, pos);
             let b = read_pixel(src, d, pos + d);

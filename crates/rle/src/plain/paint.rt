@@ -89,15 +89,15 @@ pub(crate) fn paint_dithered(dst: &mut [u8], span: Span, a: [u8; 3], b: [u8; 3])
     }
 }
 
-// With the pixels of the stream from src[pos] on.
-pub(crate) fn paint_image(src: &[u8], pos: usize, dst: &mut [u8], span: Span)
+// With the pixels that src begins with.
+pub(crate) fn paint_image(src: &[u8], dst: &mut [u8], span: Span)
     requires place { HasPlace span dst.old }
-    requires operands { pos + span.pixels * span.bytes ≤ length src.now }
-    ensures { Paints span (λ j. decode.Ink.solid (pixel_at span.bytes (drop pos src.now) j)) dst.old dst.new }
+    requires operands { span.pixels * span.bytes ≤ length src.now }
+    ensures { Paints span (λ j. decode.Ink.solid (pixel_at span.bytes src.now j)) dst.old dst.new }
 {
     let d = span.bytes;
     for i in 0..span.pixels {
-        let p = read_pixel(src, d, pos + i * d);
+        let p = read_pixel(src, d, i * d);
         write_pixel(dst, d, (span.start + i) * d, p);
     }
 }

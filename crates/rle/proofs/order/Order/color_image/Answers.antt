@@ -1,6 +1,7 @@
 -- `color_image` meets its contract: the image is painted as planned, with the pixels of the stream. Assumes nothing.
 use mathlib.Core.Path.{refl}
 use native.Mathlib.Omega.{arith}
+use Rattle.std.proofs.lemmas.List.{take_rest}
 use Rattle.definition.specs.Orders.{ColorImage}
 use Rattle.definition.specs.Plan.{counts_of, kind_ink, leaves, insert_in, foreground_in}
 use Rattle.rle.proofs.Painting.{painted-zero}
@@ -41,4 +42,4 @@ pub returns : goal.returns
 unfolding counts_of foreground_in insert_in kind_ink leaves
 returns c =
     executes_finished _ _ _ (ready c.args.self _ c.requires) c.args.self.place ColorImage c.color_image-p.result (rw (c.room.ensures.0, c.room.ensures.1) at c.color_image-p.ensures) refl c.finished-2.ensures
-    (rw c.span.ensures.bytes at (next-painted c.span.ensures c.paint_image.ensures))
+    (rw c.span.ensures.bytes at (next-painted c.span.ensures (rw take_rest at c.paint_image.ensures)))

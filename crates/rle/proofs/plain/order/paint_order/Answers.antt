@@ -1,5 +1,6 @@
 -- `paint_order` meets its contract: each arm paints with the ink of its kinds. Assumes nothing.
 use lib.Seq.{drop-drop}
+use Rattle.std.proofs.lemmas.List.{take_rest}
 use Rattle.definition.specs.Plan.{kind_ink}
 use Rattle.picture.proofs.Pixels.{zeros_of_depth}
 use Rattle.rle.proofs.Painting.{painted-zero, painted_as, read_of_depth}
@@ -57,7 +58,7 @@ returns-in-ColorRun c = rw c.in-ColorRun.is (rw c.read_pixel.ensures at c.paint_
 
 pub returns-in-ColorImage : goal.returns-in-ColorImage
 unfolding kind_ink
-returns-in-ColorImage c = rw c.in-ColorImage.is c.paint_image.ensures
+returns-in-ColorImage c = rw c.in-ColorImage.is (rw take_rest at c.paint_image.ensures)
 
 pub returns-in-DitheredRun : goal.returns-in-DitheredRun
 unfolding kind_ink

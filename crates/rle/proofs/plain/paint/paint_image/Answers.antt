@@ -11,5 +11,5 @@ loop-i-preserved c =
     let s = c.args.span in
     let read = c.read_pixel-p.ensures in
     painted_more _ _ _ _ _ _ _ _ l.invariant
-    (one_as (image-solid s.bytes c.args.src.now c.args.pos l.i read)
+    (one_as (image-solid s.bytes c.args.src.now l.i read)
     (one-solid s l.i l.dst _ (rw l.auto.dst c.requires.place) c.loop-i-test.true (read_of_depth _ s.low s.high read) c.write_pixel.ensures))

@@ -4,4 +4,4 @@ use Rattle.rle.proofs.span.Span.paint_image.Goals as goal
 
 pub returns : goal.returns
 returns c =
-    part_copied c.args.self c.args.dst.now _ c.requires.place c.args.src.now c.args.pos c.requires.operands c.copy_in.ensures
+    part_copied c.args.self c.args.dst.now _ c.requires.place c.args.src.now c.requires.operands c.copy_in.ensures
