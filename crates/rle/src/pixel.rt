@@ -3,7 +3,8 @@ ghost use Rattle.std.specs.Prelude.{◌≡◌, ◌+◌, ◌≤◌, length, drop}
 ghost use Rattle.picture.specs.Pixels.{first_pixel, xor_pixel};
 ghost use Rattle.rle.specs.Stored.{store_pixel};
 
-// The pixel of d bytes whose first one is s[at].
+// The pixel of d bytes whose first one is s[at]. By ifs: with a match on d, a dithered run of few pixels of two bytes takes 90
+// instructions, and so 62.
 pub(crate) fn read_pixel(s: &[u8], d: usize, at: usize) -> [u8; 3]
     requires { (1 ≤ d) × (d ≤ 3) × (at + d ≤ length s.now) }
     ensures { result ≡ first_pixel d (drop at s.now) }
