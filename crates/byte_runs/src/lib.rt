@@ -2,7 +2,7 @@
 #![tactic(auto)]
 
 ghost use Rattle.std.specs.Prelude.{◌≡◌, true, ℕ, ◌+◌, ◌*◌, ◌/◌, ◌≤◌, ◌<◌, leb, length, slice_index};
-ghost use Rattle.byte_runs.specs.Runs.{both, byte_back, each, is_depth, row_bytes, row_there, run, turn};
+ghost use Rattle.byte_runs.specs.Runs.{both, bytes, each, is_depth, run, turn};
 
 // Whether n pixels of d bytes have a place in `room` bytes.
 pub fn pixels_fit(d: usize, n: usize, room: usize) -> bool
@@ -16,25 +16,13 @@ pub fn pixels_fit(d: usize, n: usize, room: usize) -> bool
     }
 }
 
-// Byte j of those so many places before `at`; in the first row zero.
-pub fn byte_back(dst: &[u8], at: usize, j: usize, back: Option<usize>) -> u8
-    requires { (at + j < length dst.now) × (row_there back at ≡ true) }
-    ensures { result ≡ byte_back back (at + j) dst.now }
-{
-    match back {
-        None => 0,
-        Some(row) => dst[at - row + j],
-    }
-}
-
-// The first D bytes of a pixel exclusive-or those so many places back. By an index, since a byte may be read that was just written: the row
-// may be shorter than a pixel.
-pub fn put_pixel<const D: usize>(dst: &mut [u8], at: usize, back: Option<usize>, pixel: [u8; 3])
-    requires { (D ≤ 3) × (at + D ≤ length dst.old) × (row_there back at ≡ true) }
-    ensures { dst.new ≡ run (row_bytes back at (each pixel)) at D dst.old }
+// The first D bytes of a pixel, by an index: a proof knows nothing of a slice's elements once `iter_mut().zip` has lent them.
+fn put_pixel<const D: usize>(dst: &mut [u8], at: usize, pixel: [u8; 3])
+    requires { (D ≤ 3) × (at + D ≤ length dst.old) }
+    ensures { dst.new ≡ run (bytes (each pixel)) at D dst.old }
 {
     for j in 0..D {
-        dst[at + j] = byte_back(dst, at, j, back) ^ pixel[j];
+        dst[at + j] = pixel[j];
     }
 }
 
@@ -48,7 +36,7 @@ pub fn pattern<const D: usize, const N: usize>(pixel: [u8; 3]) -> [u8; N]
         return t;
     }
     for i in 0..N / D {
-        put_pixel::<D>(&mut t, i * D, None, pixel);
+        put_pixel::<D>(&mut t, i * D, pixel);
     }
     t
 }

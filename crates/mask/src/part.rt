@@ -2,7 +2,7 @@
 ghost use Rattle.std.specs.Prelude.{◌≡◌, true, ◌+◌, ◌*◌, ◌%◌, ◌≤◌, length, get_or};
 ghost use Rattle.byte_runs.specs.Runs.{Depth, run, row_there, row_bytes, mask_by, masked_by};
 
-use byte_runs::byte_back;
+use crate::whole::byte_back;
 
 // The byte where the mask's lowest bit is 1, zero where it is 0.
 fn bit_byte(m: u8, a: u8) -> u8

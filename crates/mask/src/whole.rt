@@ -1,8 +1,8 @@
 // Whole masks: eight pixels of D bytes at a time, N bytes.
 ghost use Rattle.std.specs.Prelude.{◌≡◌, true, ℕ, ◌+◌, ◌*◌, ◌/◌, ◌≤◌, ◌<◌, ◌==◌, if◌then◌else◌, bit_and, length, get_or};
-ghost use Rattle.byte_runs.specs.Runs.{Eight, run, listed, row_there, row_holds, row_bytes, inked_by, masked_by};
+ghost use Rattle.byte_runs.specs.Runs.{Eight, run, listed, byte_back, row_there, row_holds, row_bytes, inked_by, masked_by};
 
-use byte_runs::{byte_back, pattern};
+use byte_runs::pattern;
 
 // What a mask that stands twice in 16 bits is tested against for each of its bits: bits 0 to 3 in the upper copy and bits 4 to 7 in the
 // lower, so that none is a sign bit, which the compiler would test in a way of its own and not by vector code.
@@ -35,6 +35,17 @@ fn store<const N: usize>(dst: &mut [u8], to: usize, t: &[u8; N])
 {
     for i in 0..N {
         dst[to + i] = t[i];
+    }
+}
+
+// The byte above the one at + j, zero in the first row.
+pub(crate) fn byte_back(dst: &[u8], at: usize, j: usize, back: Option<usize>) -> u8
+    requires { (at + j < length dst.now) × (row_there back at ≡ true) }
+    ensures { result ≡ byte_back back (at + j) dst.now }
+{
+    match back {
+        None => 0,
+        Some(row) => dst[at - row + j],
     }
 }
 

@@ -5,6 +5,7 @@ ghost use Rattle.definition.specs.Codes.{kind_number, length_number};
 ghost use Rattle.rle.specs.Kinds.{number_of, numbers_in};
 
 use crate::kind::Kind;
+use base::widen;
 
 // The kind of each header byte: a row for each upper half. Below F0 a row has one kind, and the lower half is a run length.
 const KINDS: [[Kind; 16]; 16] = [
@@ -87,6 +88,6 @@ impl Headers {
         requires { header < 256 }
         ensures { result ≡ length_number header }
     {
-        usize::from(self.lengths[header])
+        widen(self.lengths[header])
     }
 }

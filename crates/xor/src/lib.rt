@@ -6,7 +6,7 @@
 ghost use Rattle.std.specs.Prelude.{◌≡◌, ℕ, ◌+◌, ◌*◌, ◌%◌, ◌≤◌, ◌<◌, leb, length, get_or};
 ghost use Rattle.byte_runs.specs.Runs.{Depth, run, run_where, both, pixels_there, xored, mixed, turn, each};
 
-use byte_runs::{pattern, pixels_fit, put_pixel};
+use byte_runs::{pattern, pixels_fit};
 
 // One block, read whole before it is written: by an index, since a proof knows nothing of an array's elements once `iter_mut().zip` has lent
 // them, and by `array::from_fn` it did not close: that the closure stays the same from call to call is not known there. Inlined, so that
@@ -37,13 +37,23 @@ fn xor_blocks<const D: usize>(dst: &mut [u8], at: usize, len: usize, row: usize,
     }
 }
 
+// One pixel, by an index, since a byte may be read that was just written: the row may be shorter than a pixel.
+fn xor_pixel<const D: usize>(dst: &mut [u8], at: usize, row: usize, pixel: [u8; 3])
+    requires { (D ≤ 3) × (at + D ≤ length dst.old) × (row ≤ at) }
+    ensures { dst.new ≡ run (xored at row (each pixel)) at D dst.old }
+{
+    for j in 0..D {
+        dst[at + j] = dst[at - row + j] ^ pixel[j];
+    }
+}
+
 // Pixels one by one.
 fn xor_few<const D: usize>(dst: &mut [u8], at: usize, n: usize, row: usize, pixel: [u8; 3])
     requires { Depth D × (at + n * D ≤ length dst.old) × (row ≤ at) }
     ensures { dst.new ≡ run (xored at row (turn pixel D)) at (n * D) dst.old }
 {
     for i in 0..n {
-        put_pixel::<D>(dst, at + i * D, Some(row), pixel);
+        xor_pixel::<D>(dst, at + i * D, row, pixel);
     }
 }
 

@@ -1,8 +1,7 @@
 -- `put_pixel` meets its contract: j bytes are stored. Assumes nothing.
 use Rattle.std.proofs.Common.{◌+◌, refl, arith}
 use lib.ListN.{length-set}
-use Rattle.byte_runs.specs.Runs.{run, row_bytes, each}
-use Rattle.byte_runs.proofs.Pixels.{row_byte}
+use Rattle.byte_runs.specs.Runs.{run, bytes, each}
 use Rattle.byte_runs.proofs.Runs.{store_more}
 use Rattle.byte_runs.proofs.put_pixel.Goals as goal
 
@@ -16,7 +15,5 @@ loop-j-preserved g c =
     let l = c.loop-j in
     record {
       long = simp length-set (omega arith);
-      stored =
-          store_more (row_bytes a.back a.at (each a.pixel)) a.at l.j (a.at + l.j) _ l.dst a.dst.now refl
-          (row_byte a.back (each a.pixel) a.at l.j _ _ l.dst c.byte_back.ensures refl) l.invariant.stored;
+      stored = store_more (bytes (each a.pixel)) a.at l.j (a.at + l.j) _ l.dst a.dst.now refl refl l.invariant.stored;
     }

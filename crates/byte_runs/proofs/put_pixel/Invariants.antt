@@ -1,10 +1,10 @@
 -- `put_pixel` meets its contract: j bytes are stored. Assumes nothing.
 use Rattle.std.proofs.Common.{◌≡◌, length}
-use Rattle.byte_runs.specs.Runs.{run, row_bytes, each}
+use Rattle.byte_runs.specs.Runs.{run, bytes, each}
 use Rattle.byte_runs.proofs.put_pixel.Given as goal
 
 abbrev pub invariant-loop-j : goal.invariant-loop-j
 invariant-loop-j g l = record {
   long : length l.dst ≡ length l.initial.dst;
-  stored : l.dst ≡ run (row_bytes l.back l.at (each l.pixel)) l.at l.j l.initial.dst;
+  stored : l.dst ≡ run (bytes (each l.pixel)) l.at l.j l.initial.dst;
 }

@@ -16,5 +16,5 @@ loop-i-preserved g c =
       long = omega arith;
       written =
           row_then (Some a.row) (each a.pixel) (turn a.pixel g.row.D) a.at (l.i * g.row.D) g.row.D ((l.i + 1) * g.row.D) _ l.dst a.dst.now
-          (λ k q. sym (turn_byte g.row.D l.i k a.pixel q)) (omega arith) c.put_pixel.ensures l.invariant.written;
+          (λ k q. sym (turn_byte g.row.D l.i k a.pixel q)) (omega arith) c.xor_pixel.ensures l.invariant.written;
     }

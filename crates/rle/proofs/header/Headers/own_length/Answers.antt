@@ -5,4 +5,4 @@ use Rattle.rle.proofs.header.Headers.own_length.Goals as goal
 
 pub returns : goal.returns
 unfolding lengths
-returns c = rw (c.from.ensures, c.args.self.now.lengths_listed, get_d_tabulate 0 length_number 256 _ c.requires)
+returns c = rw (c.widen.ensures.0, c.args.self.now.lengths_listed, get_d_tabulate 0 length_number 256 _ c.requires)

@@ -1,6 +1,6 @@
 -- `byte_back` meets its contract: the place is the same, counted from the row back. Assumes nothing.
 use Rattle.std.proofs.Common.{◌≡◌, ℕ, ◌+◌, ◌-◌, ap, get_or, rules}
-use Rattle.byte_runs.proofs.byte_back.Goals as goal
+use Rattle.mask.proofs.whole.byte_back.Goals as goal
 
 pub returns-in-Some : goal.returns-in-Some
 returns-in-Some c =

@@ -1,0 +1,24 @@
+-- `xor_pixel` meets its contract: j bytes are stored. Assumes nothing.
+use Rattle.std.proofs.Common.{◌≡◌, ℕ, ◌+◌, ◌-◌, refl, ap, arith, get_or, rules}
+use lib.ListN.{length-set}
+use Rattle.std.specs.Prelude.{Some}
+use Rattle.byte_runs.specs.Runs.{run, xored, each, row_bytes}
+use Rattle.byte_runs.proofs.Pixels.{row_byte}
+use Rattle.byte_runs.proofs.Runs.{store_more}
+use Rattle.xor.proofs.xor_pixel.Goals as goal
+
+pub loop-j-init : goal.loop-j-init
+unfolding run
+loop-j-init g c = record { long = refl; stored = refl }
+
+pub loop-j-preserved : goal.loop-j-preserved
+loop-j-preserved g c =
+    let a = c.args in
+    let l = c.loop-j in
+    let place : a.at - a.row + l.j ≡ a.at + l.j - a.row = search (rules, c.requires) in
+    record {
+      long = simp length-set (omega arith);
+      stored =
+          store_more (row_bytes (Some a.row) a.at (each a.pixel)) a.at l.j (a.at + l.j) _ l.dst a.dst.now refl
+          (row_byte (Some a.row) (each a.pixel) a.at l.j _ _ l.dst (ap (λ (i : ℕ). get_or l.dst i 0) place) refl) l.invariant.stored;
+    }
