@@ -74,18 +74,18 @@ last_is (Ok u) s = refl
 last_is (Err e) s = refl
 
 module _ (f : Frame) (k : ℕ) (src before after : List ℕ) (s : Stepped) (frame : Framed (length before) f) (same : length after ≡ length before)
-    (octets : Bytes src) (decodes : Decodes f src before after s) (r : Report) (reports : summary_in r ≡ summary_after s.ending k s.state.pixels s.state.orders) where
-  fits : s.state.pixels * f.bytes ≤ length after
-  fits = rw same (omega (arith, frame.fits, mul-le-mul_right {m = s.state.pixels} {n = f.total} f.bytes decodes.invariant.within))
+    (octets : Bytes src) (decodes : Decodes f src before after s) (r : Report) (reports : summary_in r ≡ summary_after s.ending k s.state.walk.pixels s.state.orders) where
+  fits : s.state.walk.pixels * f.bytes ≤ length after
+  fits = rw same (omega (arith, frame.fits, mul-le-mul_right {m = s.state.walk.pixels} {n = f.total} f.bytes decodes.invariant.within))
 
-  bounded-is : s.state.pixels ≤ 26214 * length src
+  bounded-is : s.state.walk.pixels ≤ 26214 * length src
   bounded-is =
       let e : last (decode f src) ≡ state_of f src after s.state = ap last (sym decodes.is) ∙ last_is s.ending _ in
-      let n : length (last (decode f src)).painted ≡ s.state.pixels =
-      ap (λ (x : State). length x.painted) e ∙ length-pixels_of f.bytes s.state.pixels after in
+      let n : length (last (decode f src)).painted ≡ s.state.walk.pixels =
+      ap (λ (x : State). length x.painted) e ∙ length-pixels_of f.bytes s.state.walk.pixels after in
       omega (arith, n, (decode_bounds f src frame.low octets).1)
 
-  pixels : r.pixels ≡ s.state.pixels
+  pixels : r.pixels ≡ s.state.walk.pixels
   pixels = ap (λ (x : Summary). x.pixels) reports
 
   orders : r.orders ≡ s.state.orders
@@ -98,11 +98,11 @@ module _ (f : Frame) (k : ℕ) (src before after : List ℕ) (s : Stepped) (fram
       (record {
         report = rw length-pixels_of reports;
         target =
-            rw (length-pixels_of f.bytes s.state.pixels after, bytes-pixels f.bytes s.state.pixels after frame.high fits, ← decodes.rest)
-            (sym (take-append-drop (s.state.pixels * f.bytes) after));
+            rw (length-pixels_of f.bytes s.state.walk.pixels after, bytes-pixels f.bytes s.state.walk.pixels after frame.high fits, ← decodes.rest)
+            (sym (take-append-drop (s.state.walk.pixels * f.bytes) after));
         painted =
-            rw (length-pixels_of f.bytes s.state.pixels after, bytes-pixels f.bytes s.state.pixels after frame.high fits)
-            (length-take-le (s.state.pixels * f.bytes) after fits);
+            rw (length-pixels_of f.bytes s.state.walk.pixels after, bytes-pixels f.bytes s.state.walk.pixels after frame.high fits)
+            (length-take-le (s.state.walk.pixels * f.bytes) after fits);
         within = rw pixels decodes.invariant.within;
         counted = rw (pixels, orders) decodes.invariant.counted;
         bounded = rw pixels bounded-is;
@@ -120,7 +120,7 @@ module _ (bpp w h : ℕ) (f : CodeFrame) (is : accepted (frame_of f) (format_of 
   module _ (before : List ℕ) (space : f.total * f.depth.bytes ≤ length before) where
     pub reports_decoded : (src after : List ℕ) (s : Stepped) → length after ≡ length before → Bytes src
         → Decodes (frame_of f) src before after s
-        → (r : Report) → summary_in r ≡ summary_after s.ending (format_of f.depth.format) s.state.pixels s.state.orders → Decompresses src bpp w h before after r
+        → (r : Report) → summary_in r ≡ summary_after s.ending (format_of f.depth.format) s.state.walk.pixels s.state.orders → Decompresses src bpp w h before after r
     unfolding result_in of_checked with_space
     reports_decoded src after s same octets decodes r reports =
         rw (← total-is, ← is, le-ltb (length before) (f.total * f.depth.bytes) space)

@@ -28,20 +28,17 @@ row_marked true false k w e h = ltb-false k w e
 
 module _ (f : CodeFrame) (s : CodeState) where
   -- a row that is not yet painted does not end
-  pub row_stays : (s.first_row ≡ true → s.pixels < f.width) → first_row_ended f s ≡ s
+  pub row_stays : (s.walk.first_row ≡ true → s.walk.pixels < f.width) → first_row_ended f s ≡ s
   row_stays h =
-      let e = kept s.first_row (ltb s.pixels f.width) s.insert (λ t. lt-ltb s.pixels f.width (h t)) in
+      let e = kept s.walk.first_row (ltb s.walk.pixels f.width) s.walk.insert (λ t. lt-ltb s.walk.pixels f.width (h t)) in
       λ i. record {
-        pos = s.pos;
-        pixels = s.pixels;
+        walk = record { pos = s.walk.pos; pixels = s.walk.pixels; insert = e.0 i; first_row = e.1 i };
         foreground = s.foreground;
-        insert = e.0 i;
-        first_row = e.1 i;
         orders = s.orders;
       }
 
-  pub row_begun : (first_row_ended f s).first_row ≡ true → s.pixels < f.width
-  row_begun e = ltb-true s.pixels f.width (both_true s.first_row (ltb s.pixels f.width) e).1
+  pub row_begun : (first_row_ended f s).walk.first_row ≡ true → s.walk.pixels < f.width
+  row_begun e = ltb-true s.walk.pixels f.width (both_true s.walk.first_row (ltb s.walk.pixels f.width) e).1
 
   -- the code's is the definition's
   pub mark-is : (src dst : List ℕ) → state_of (frame_of f) src dst (first_row_ended f s) ≡ end_first_row (frame_of f) (state_of (frame_of f) src dst s)
@@ -52,22 +49,22 @@ module _ (f : CodeFrame) (s : CodeState) where
   invariant_marked invariant =
       record {
         within = invariant.within;
-        row = row_marked s.first_row (ltb s.pixels f.width) s.pixels f.width refl invariant.row;
+        row = row_marked s.walk.first_row (ltb s.walk.pixels f.width) s.walk.pixels f.width refl invariant.row;
         foreground = invariant.foreground;
         counted = invariant.counted;
       }
 
 -- the plain decoder works it out without a test
 module _ (f : CodeFrame) (s : CodeState) where
-  pub row_ended : s.first_row && ltb s.pixels f.width ≡ (first_row_ended f s).first_row
-  row_ended = so s.first_row
+  pub row_ended : s.walk.first_row && ltb s.walk.pixels f.width ≡ (first_row_ended f s).walk.first_row
+  row_ended = so s.walk.first_row
     where
-      so : (first : Bool) → first && ltb s.pixels f.width ≡ pick first (ltb s.pixels f.width) false
+      so : (first : Bool) → first && ltb s.walk.pixels f.width ≡ pick first (ltb s.walk.pixels f.width) false
       so true = refl
       so false = refl
 
-  pub insert_ended : s.insert && beq (s.first_row && ltb s.pixels f.width) s.first_row ≡ (first_row_ended f s).insert
-  insert_ended = so s.first_row (ltb s.pixels f.width) s.insert
+  pub insert_ended : s.walk.insert && beq (s.walk.first_row && ltb s.walk.pixels f.width) s.walk.first_row ≡ (first_row_ended f s).walk.insert
+  insert_ended = so s.walk.first_row (ltb s.walk.pixels f.width) s.walk.insert
     where
       so : (first stays insert : Bool) → insert && beq (first && stays) first ≡ pick first (pick stays insert false) insert
       so true true true = refl
@@ -87,5 +84,5 @@ pub step_marked : (f : CodeFrame) (s : CodeState) (src dst : List ℕ)
 unfolding step
 step_marked f s src dst =
     let t = first_row_ended f s in
-    ap (λ (x : State). order_from (frame_of f) x (head_of (drop s.pos src)))
+    ap (λ (x : State). order_from (frame_of f) x (head_of (drop s.walk.pos src)))
     (sym (mark-is f t src dst) ∙ ap (λ (x : CodeState). state_of (frame_of f) src dst x) (row_again f s) ∙ mark-is f s src dst)

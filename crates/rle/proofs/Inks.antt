@@ -43,23 +43,23 @@ foreground_of_depth frame of xs a_foreground = new_of_depth frame of xs
 foreground_of_depth frame of xs nothing = of
 
 -- the row above is there where the state's two inks look at it
-module _ {f : CodeFrame} {s : CodeState} {n : ℕ} {t : Span} (is : IsSpan f s n t) (row : row_above s.first_row f.width ≤ s.pixels) where
+module _ {f : CodeFrame} {s : CodeState} {n : ℕ} {t : Span} (is : IsSpan f s n t) (row : row_above s.walk.first_row f.width ≤ s.walk.pixels) where
   pub fg_paintable : {p : Pixel} → OfDepth f.depth.bytes p → Paintable t (fg_of (with_fg s p))
-  fg_paintable {p} of = go s.first_row row
+  fg_paintable {p} of = go s.walk.first_row row
     where
-      go : (first : Bool) → row_above first f.width ≤ s.pixels → Paintable t (pick first (Solid p) (AboveXor p))
+      go : (first : Bool) → row_above first f.width ≤ s.walk.pixels → Paintable t (pick first (Solid p) (AboveXor p))
       go true h = rw is.bytes of
       go false h = (rw (is.width, is.start) h, rw is.bytes of)
 
   pub bg_paintable : OfDepth f.depth.bytes f.depth.black → Paintable t (bg_of f s)
-  bg_paintable of = go s.first_row row
+  bg_paintable of = go s.walk.first_row row
     where
-      go : (first : Bool) → row_above first f.width ≤ s.pixels → Paintable t (pick first (Solid f.depth.black) Above)
+      go : (first : Bool) → row_above first f.width ≤ s.walk.pixels → Paintable t (pick first (Solid f.depth.black) Above)
       go true h = rw is.bytes of
       go false h = rw (is.width, is.start) h
 
   pub insert_paintable : OfDepth f.depth.bytes s.foreground → IfSome (insert_of s) (λ ink. Paintable t ink)
-  insert_paintable of = go s.insert
+  insert_paintable of = go s.walk.insert
     where
       go : (insert : Bool) → IfSome (then_some insert (fg_of s)) (λ ink. Paintable t ink)
       go true = fg_paintable of
@@ -67,7 +67,7 @@ module _ {f : CodeFrame} {s : CodeState} {n : ℕ} {t : Span} (is : IsSpan f s n
 
 -- a state's foreground has a color, which its masks need
 pub fg_color : (s : CodeState) → HasColor (fg_of s)
-fg_color s = go s.first_row
+fg_color s = go s.walk.first_row
   where
     go : (first : Bool) → HasColor (pick first (Solid s.foreground) (AboveXor s.foreground))
     go true = tt
@@ -76,18 +76,18 @@ fg_color s = go s.first_row
 -- ---- they are the definition's
 
 -- those of a state that differs from s in the foreground alone
-pub fg-is : {i : CodeInk} {t : CodeState} {p : Pixel} (s : CodeState) → t ≡ with_fg s p → i ≡ fg_of t → ink_of i ≡ fg_ink s.first_row p
+pub fg-is : {i : CodeInk} {t : CodeState} {p : Pixel} (s : CodeState) → t ≡ with_fg s p → i ≡ fg_of t → ink_of i ≡ fg_ink s.walk.first_row p
 unfolding fg_ink
-fg-is {p = p} s e is = ap (λ (x : CodeInk). ink_of x) (is ∙ ap (λ (x : CodeState). fg_of x) e) ∙ go s.first_row
+fg-is {p = p} s e is = ap (λ (x : CodeInk). ink_of x) (is ∙ ap (λ (x : CodeState). fg_of x) e) ∙ go s.walk.first_row
   where
     go : (first : Bool) → ink_of (pick first (Solid p) (AboveXor p)) ≡ pick first (solid p) (above_xor p)
     go true = refl
     go false = refl
 
 pub bg-is : {j : CodeInk} {t : CodeState} {p : Pixel} (f : CodeFrame) (s : CodeState) → t ≡ with_fg s p → j ≡ bg_of f t
-    → ink_of j ≡ bg_ink s.first_row f.depth.black
+    → ink_of j ≡ bg_ink s.walk.first_row f.depth.black
 unfolding bg_ink
-bg-is {p = p} f s e is = ap (λ (x : CodeInk). ink_of x) (is ∙ ap (λ (x : CodeState). bg_of f x) e) ∙ go s.first_row
+bg-is {p = p} f s e is = ap (λ (x : CodeInk). ink_of x) (is ∙ ap (λ (x : CodeState). bg_of f x) e) ∙ go s.walk.first_row
   where
     go : (first : Bool) → ink_of (pick first (Solid f.depth.black) Above) ≡ pick first (solid f.depth.black) above
     go true = refl
@@ -95,9 +95,9 @@ bg-is {p = p} f s e is = ap (λ (x : CodeInk). ink_of x) (is ∙ ap (λ (x : Cod
 
 -- that of a mask's bits that are 0
 pub zero-is : {i : CodeInk} {t : CodeState} {p : Pixel} (f : CodeFrame) (s : CodeState) → f.depth.black ≡ 0 ∷ 0 ∷ 0 ∷ [] → t ≡ with_fg s p → i ≡ fg_of t
-    → zero_ink i ≡ bg_ink s.first_row f.depth.black
+    → zero_ink i ≡ bg_ink s.walk.first_row f.depth.black
 unfolding bg_ink
-zero-is {p = p} f s black e is = ap (λ (x : CodeInk). zero_ink x) (is ∙ ap (λ (x : CodeState). fg_of x) e) ∙ go s.first_row
+zero-is {p = p} f s black e is = ap (λ (x : CodeInk). zero_ink x) (is ∙ ap (λ (x : CodeState). fg_of x) e) ∙ go s.walk.first_row
   where
     go : (first : Bool) → zero_ink (pick first (Solid p) (AboveXor p)) ≡ pick first (solid f.depth.black) above
     go true = ap solid (sym black)
@@ -110,8 +110,8 @@ inserted-is true fg bg j = refl
 inserted-is false fg bg j = refl
 
 pub insert-is : {i : Option CodeInk} {b : CodeInk} (f : CodeFrame) (s : CodeState) → i ≡ insert_of s → b ≡ bg_of f s → (j : ℕ)
-    → insert_inks i b j ≡ insert_ink s.insert (fg_ink s.first_row s.foreground) (bg_ink s.first_row f.depth.black) j
+    → insert_inks i b j ≡ insert_ink s.walk.insert (fg_ink s.walk.first_row s.foreground) (bg_ink s.walk.first_row f.depth.black) j
 insert-is {i} {b} f s fg bg j =
     rw fg
-    (inserted-is s.insert (fg_of s) b j
-    ∙ (λ h. insert_ink s.insert (fg-is {p = s.foreground} s refl refl h) (bg-is {p = s.foreground} f s refl bg h) j))
+    (inserted-is s.walk.insert (fg_of s) b j
+    ∙ (λ h. insert_ink s.walk.insert (fg-is {p = s.foreground} s refl refl h) (bg-is {p = s.foreground} f s refl bg h) j))

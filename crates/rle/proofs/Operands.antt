@@ -57,13 +57,13 @@ has_operands D n a R p kinds.NoOrder plans = ap (λ (x : Counts). x.pixels) plan
 -- ---- painting
 
 -- the span that is painted, and the state's inks in it
-module _ (o : Order) (n : ℕ) (room : o.state.pixels + n ≤ o.frame.total) where
+module _ (o : Order) (n : ℕ) (room : o.state.walk.pixels + n ≤ o.frame.total) where
   abbrev own : Span
   own =
       record {
         bytes = o.frame.depth.bytes;
         width = o.frame.width;
-        start = o.state.pixels;
+        start = o.state.walk.pixels;
         pixels = n;
         low = o.frame.low;
         high = o.frame.high;
@@ -126,32 +126,32 @@ insert_only f NoOrder i fg bg xs j = refl
 
 -- an order of kind c with the plan p; own: its foreground
 module _ (o : Order) (dst : List ℕ) (c : CodeKind) {own : Pixel}
-    (is-own : own ≡ foreground_by o.frame.depth.bytes (kind_in c) o.state.foreground (drop o.state.pos o.src.now))
+    (is-own : own ≡ foreground_by o.frame.depth.bytes (kind_in c) o.state.foreground (drop o.state.walk.pos o.src.now))
     (fits : HasPicture o dst) (p : CodePlan)
-    (plans : counts_in p ≡ counts_of o.frame.depth.bytes (kind_in c) o.run_length.pixels (length o.src.now - o.state.pos) (o.frame.total - o.state.pixels)) where
+    (plans : counts_in p ≡ counts_of o.frame.depth.bytes (kind_in c) o.run_length.pixels (length o.src.now - o.state.walk.pos) (o.frame.total - o.state.walk.pixels)) where
   -- the order with that foreground
   pub own_holds : Invariant (frame_of o.frame) (with_fg o.state own)
   own_holds =
       record {
         within = o.holds.within;
         row = o.holds.row;
-        foreground = rw is-own (foreground_of_depth (ready o _ fits).frame o.holds.foreground (drop o.state.pos o.src.now) (leaves (kind_in c)));
+        foreground = rw is-own (foreground_of_depth (ready o _ fits).frame o.holds.foreground (drop o.state.walk.pos o.src.now) (leaves (kind_in c)));
         counted = o.holds.counted;
       }
 
-  pub own_room : o.state.pixels + p.pixels ≤ o.frame.total
+  pub own_room : o.state.walk.pixels + p.pixels ≤ o.frame.total
   own_room = omega (arith, (within (ready o _ fits) (kind_in c) _ p plans).pixels, o.holds.within)
 
-  pub own_operands : HasOperands c o.frame.depth.bytes p.pixels (length o.src.now - o.state.pos)
-  own_operands = has_operands o.frame.depth.bytes o.run_length.pixels (length o.src.now - o.state.pos) (o.frame.total - o.state.pixels) p c plans
+  pub own_operands : HasOperands c o.frame.depth.bytes p.pixels (length o.src.now - o.state.walk.pos)
+  own_operands = has_operands o.frame.depth.bytes o.run_length.pixels (length o.src.now - o.state.walk.pos) (o.frame.total - o.state.walk.pixels) p c plans
 
   pub executes_painted : {after : List ℕ} {r : Stepped} → r ≡ finished_of (with_fg o.state own) p (leaves_insert (kind_in c))
-      → Painted o.frame.depth.bytes o.frame.width (kind_ink (frame_of o.frame) (kind_in c) o.state.insert (ink_of (fg_of (with_fg o.state own))) (ink_of (bg_of o.frame o.state)) (drop o.state.pos o.src.now)) o.state.pixels p.pixels dst after
+      → Painted o.frame.depth.bytes o.frame.width (kind_ink (frame_of o.frame) (kind_in c) o.state.walk.insert (ink_of (fg_of (with_fg o.state own))) (ink_of (bg_of o.frame o.state)) (drop o.state.walk.pos o.src.now)) o.state.walk.pixels p.pixels dst after
       → CarriesOut o (kind_in c) dst after r
   executes_painted is painted =
       let state = ap (λ (x : Pixel). with_fg o.state x) is-own in
       executes_finished o.src.now dst _ (ready o _ fits) o.place (kind_in c) p plans state is
       (painted_as
-      (λ j _. (λ h. kind_ink (frame_of o.frame) (kind_in c) o.state.insert (fg-is o.state state refl h) (bg-is {p = own} o.frame o.state refl refl h) (drop o.state.pos o.src.now) j)
-      ∙ insert_only (frame_of o.frame) (kind_in c) o.state.insert _ _ (drop o.state.pos o.src.now) j)
+      (λ j _. (λ h. kind_ink (frame_of o.frame) (kind_in c) o.state.walk.insert (fg-is o.state state refl h) (bg-is {p = own} o.frame o.state refl refl h) (drop o.state.walk.pos o.src.now) j)
+      ∙ insert_only (frame_of o.frame) (kind_in c) o.state.walk.insert _ _ (drop o.state.walk.pos o.src.now) j)
       painted)

@@ -29,11 +29,11 @@ use Rattle.rle.proofs.Inks.{foreground_of_depth}
 
 -- an order of kind k and run length n with the plan p, in the state s: a bytes are left
 module _ {given : ℕ} {f : Frame} {s : CodeState} {n : ℕ} (ready : Ready given f s n) (k : Kind) (a : ℕ) (p : CodePlan)
-    (plans : counts_in p ≡ counts_of f.bytes k n a (f.total - s.pixels)) where
-  pub within : Within a (f.total - s.pixels) (counts_in p)
-  within = rw plans (kind-within f.bytes k n a (f.total - s.pixels) ready.some)
+    (plans : counts_in p ≡ counts_of f.bytes k n a (f.total - s.walk.pixels)) where
+  pub within : Within a (f.total - s.walk.pixels) (counts_in p)
+  within = rw plans (kind-within f.bytes k n a (f.total - s.walk.pixels) ready.some)
 
-  pub fits : s.pos + a ≤ 18446744073709551615 → Fits s p
+  pub fits : s.walk.pos + a ≤ 18446744073709551615 → Fits s p
   fits h =
       record {
         read = omega (arith, within.read);
@@ -43,21 +43,21 @@ module _ {given : ℕ} {f : Frame} {s : CodeState} {n : ℕ} (ready : Ready give
 
 -- the same with a target
 module _ (f : CodeFrame) (dst : List ℕ) {s : CodeState} {n : ℕ} (ready : Ready (length dst) (frame_of f) s n) (k : Kind) (a : ℕ) (p : CodePlan)
-    (plans : counts_in p ≡ counts_of f.depth.bytes k n a (f.total - s.pixels)) where
-  pub few_behind : s.pixels + p.pixels ≤ 67108864
+    (plans : counts_in p ≡ counts_of f.depth.bytes k n a (f.total - s.walk.pixels)) where
+  pub few_behind : s.walk.pixels + p.pixels ≤ 67108864
   few_behind = omega (arith, (within ready k a p plans).pixels, ready.frame.few, ready.invariant.within)
 
-  pub all_fit : (s.pixels + p.pixels) * f.depth.bytes ≤ length dst
+  pub all_fit : (s.walk.pixels + p.pixels) * f.depth.bytes ≤ length dst
   all_fit =
-      let few : s.pixels + p.pixels ≤ f.total = omega (arith, (within ready k a p plans).pixels, ready.invariant.within) in
-      omega (arith, ready.frame.fits, mul-le-mul_right {m = s.pixels + p.pixels} {n = f.total} f.depth.bytes few)
+      let few : s.walk.pixels + p.pixels ≤ f.total = omega (arith, (within ready k a p plans).pixels, ready.invariant.within) in
+      omega (arith, ready.frame.fits, mul-le-mul_right {m = s.walk.pixels + p.pixels} {n = f.total} f.depth.bytes few)
 
   pub has_place : {t : Span} → IsSpan f s p.pixels t → HasPlace t dst
   has_place is = rw (is.bytes, is.start, is.pixels) all_fit
 
 -- the pixels that come next are those that an order paints
 pub next-painted : {f : CodeFrame} {s : CodeState} {n : ℕ} {t : Span} {ink : ℕ → Ink} {xs ys : List ℕ} → IsSpan f s n t → Paints t ink xs ys
-    → Painted f.depth.bytes f.width ink s.pixels n xs ys
+    → Painted f.depth.bytes f.width ink s.walk.pixels n xs ys
 next-painted is p = rw (is.bytes, is.width, is.start, is.pixels) at p
 
 -- the same with another foreground
@@ -75,33 +75,33 @@ module _ (a : ℕ) (p : CodePlan) where
   pub pairs_even : (d D n R : ℕ) → counts_in p ≡ with_operands d a (run_counts D (n * 2) R) → p.pixels % 2 ≡ 0
   pairs_even d D n R e = subst (λ (x : Counts). x.pixels % 2 ≡ 0) (sym e) (pairs_read d D n a R)
 
-module _ {f : Frame} (src before after : List ℕ) {s : CodeState} {n : ℕ} (ready : Ready (length before) f s n) (place : s.pos ≤ length src)
-    (k : Kind) (p : CodePlan) (plans : counts_in p ≡ counts_of f.bytes k n (length src - s.pos) (f.total - s.pixels)) where
+module _ {f : Frame} (src before after : List ℕ) {s : CodeState} {n : ℕ} (ready : Ready (length before) f s n) (place : s.walk.pos ≤ length src)
+    (k : Kind) (p : CodePlan) (plans : counts_in p ≡ counts_of f.bytes k n (length src - s.walk.pos) (f.total - s.walk.pixels)) where
   abbrev S : State
   S = state_of f src before s
 
   abbrev foreground : Pixel
-  foreground = foreground_by f.bytes k s.foreground (drop s.pos src)
+  foreground = foreground_by f.bytes k s.foreground (drop s.walk.pos src)
 
   acts : order_of f k n S ≡ acted f (leaves_insert k) (ink_by f k S) foreground (counts_in p) S
   unfolding room
   acts =
       kind_acted f n S k
       ∙ (λ i. acted f (leaves_insert k) (ink_by f k S) foreground
-      (counts_of f.bytes k n (length-drop s.pos src i) (f.total - length-pixels_of f.bytes s.pixels before i)) S)
+      (counts_of f.bytes k n (length-drop s.walk.pos src i) (f.total - length-pixels_of f.bytes s.walk.pixels before i)) S)
       ∙ ap (λ (c : Counts). acted f (leaves_insert k) (ink_by f k S) foreground c S) (sym plans)
 
-  executes_planned : Painted f.bytes f.width (ink_by f k S) s.pixels p.pixels before after
+  executes_planned : Painted f.bytes f.width (ink_by f k S) s.walk.pixels p.pixels before after
       → Executes f src before after s (finished_of (with_fg s foreground) p (leaves_insert k)) (order_of f k n)
   unfolding acted
   executes_planned painted =
-      let w = within ready k (length src - s.pos) p plans in
+      let w = within ready k (length src - s.walk.pos) p plans in
       let i = ready.invariant in
       let e = ending_in p.ending in
-      let l = sym (drop-drop p.read s.pos src) in
+      let l = sym (drop-drop p.read s.walk.pos src) in
       let ps = painted.pixels in
       let after : List ℕ → List Pixel → State =
-      λ xs qs. state xs qs foreground (insert_after e (leaves_insert k) s.insert) s.first_row (orders_after e s.orders) in
+      λ xs qs. state xs qs foreground (insert_after e (leaves_insert k) s.walk.insert) s.walk.first_row (orders_after e s.orders) in
       record {
         is = (λ j. step_in p.ending (after (l j) (ps j))) ∙ sym acts;
         rest = painted.rest;
@@ -113,14 +113,14 @@ module _ {f : Frame} (src before after : List ℕ) {s : CodeState} {n : ℕ} (re
             record {
               within = omega (arith, i.within, w.pixels);
               row = omega (arith, i.row);
-              foreground = foreground_of_depth ready.frame i.foreground (drop s.pos src) (leaves k);
+              foreground = foreground_of_depth ready.frame i.foreground (drop s.walk.pos src) (leaves k);
               counted = orders-few e i.counted w.some;
             };
       }
 
   -- t: the state with the foreground that the order leaves
   pub executes_finished : {t : CodeState} {r : Stepped} → t ≡ with_fg s foreground → r ≡ finished_of t p (leaves_insert k)
-      → Painted f.bytes f.width (ink_by f k S) s.pixels p.pixels before after → Executes f src before after s r (order_of f k n)
+      → Painted f.bytes f.width (ink_by f k S) s.walk.pixels p.pixels before after → Executes f src before after s r (order_of f k n)
   executes_finished {r = r} left is painted =
       let e : r ≡ finished_of (with_fg s foreground) p (leaves_insert k) = is ∙ ap (λ (t : CodeState). finished_of t p (leaves_insert k)) left in
       rw e (executes_planned painted)

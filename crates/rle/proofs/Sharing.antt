@@ -183,26 +183,26 @@ image-enough D n a R false = omega (arith, image-masks D n a R)
 
 -- u, i, size: the state, the foreground's ink and its bytes that the code has
 module _ (f : CodeFrame) (src dst : List ℕ) (s : CodeState) (t : Bool) {u : CodeState} {i : CodeInk} {size : ℕ}
-    (state : u ≡ with_fg s (foreground_by f.depth.bytes (pick t SetFgBgImage FgBgImage) s.foreground (drop s.pos src))) (fg : i ≡ fg_of u)
+    (state : u ≡ with_fg s (foreground_by f.depth.bytes (pick t SetFgBgImage FgBgImage) s.foreground (drop s.walk.pos src))) (fg : i ≡ fg_of u)
     (sized : size ≡ pick t f.depth.bytes 0) {n : ℕ} (ready : Ready (length dst) (frame_of f) s n) (p : CodePlan)
-    (plans : counts_in p ≡ counts_of f.depth.bytes (pick t SetFgBgImage FgBgImage) n (length src - s.pos) (f.total - s.pixels)) where
+    (plans : counts_in p ≡ counts_of f.depth.bytes (pick t SetFgBgImage FgBgImage) n (length src - s.walk.pos) (f.total - s.walk.pixels)) where
   pub image_paintable : {span : Span} → IsSpan f s p.pixels span → Paintable span i × HasColor i
   image_paintable is =
       rw (fg, state)
-      (fg_paintable is ready.invariant.row (foreground_of_depth ready.frame ready.invariant.foreground (drop s.pos src) (leaves (pick t SetFgBgImage FgBgImage))), fg_color (with_fg s (foreground_by f.depth.bytes (pick t SetFgBgImage FgBgImage) s.foreground (drop s.pos src))))
+      (fg_paintable is ready.invariant.row (foreground_of_depth ready.frame ready.invariant.foreground (drop s.walk.pos src) (leaves (pick t SetFgBgImage FgBgImage))), fg_color (with_fg s (foreground_by f.depth.bytes (pick t SetFgBgImage FgBgImage) s.foreground (drop s.walk.pos src))))
 
-  pub image_masks : p.pixels ≤ (length src - (s.pos + size)) * 8
+  pub image_masks : p.pixels ≤ (length src - (s.walk.pos + size)) * 8
   image_masks =
-      let enough = subst (λ (c : Counts). c.pixels ≤ (length src - s.pos - pick t f.depth.bytes 0) * 8) (sym plans)
-      (image-enough f.depth.bytes n (length src - s.pos) (f.total - s.pixels) t) in
+      let enough = subst (λ (c : Counts). c.pixels ≤ (length src - s.walk.pos - pick t f.depth.bytes 0) * 8) (sym plans)
+      (image-enough f.depth.bytes n (length src - s.walk.pos) (f.total - s.walk.pixels) t) in
       rw sized (omega (arith, enough))
 
-  pub image_executes : s.pos ≤ length src → {r : Stepped} {after : List ℕ} → r ≡ finished_of u p (leaves_insert (pick t SetFgBgImage FgBgImage))
-      → Painted f.depth.bytes f.width (image_ink (ink_of i) (zero_ink i) (drop (s.pos + size) src)) s.pixels p.pixels dst after
+  pub image_executes : s.walk.pos ≤ length src → {r : Stepped} {after : List ℕ} → r ≡ finished_of u p (leaves_insert (pick t SetFgBgImage FgBgImage))
+      → Painted f.depth.bytes f.width (image_ink (ink_of i) (zero_ink i) (drop (s.walk.pos + size) src)) s.walk.pixels p.pixels dst after
       → Executes (frame_of f) src dst after s r (order_of (frame_of f) (pick t SetFgBgImage FgBgImage) n)
   image_executes place is painted =
       executes_finished _ _ _ ready place _ p plans state is
       (painted_as
-      (λ m _. (λ h. image_ink (fg-is s state fg h) (zero-is f s ready.frame.black state fg h) (drop (s.pos + sized h) src) m)
-      ∙ image_ink_lem (frame_of f) _ _ _ s.pos src t m)
+      (λ m _. (λ h. image_ink (fg-is s state fg h) (zero-is f s ready.frame.black state fg h) (drop (s.walk.pos + sized h) src) m)
+      ∙ image_ink_lem (frame_of f) _ _ _ s.walk.pos src t m)
       painted)

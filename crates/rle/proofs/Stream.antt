@@ -35,7 +35,7 @@ invariant_at pos invariant =
 
 module _ (f : CodeFrame) (src dst : List ℕ) (s : CodeState) (begun : first_row_ended f s ≡ s) where
   -- an order begins with the first row's end, which is behind or not yet due
-  step_from : (x : Head) → head_of (drop s.pos src) ≡ x
+  step_from : (x : Head) → head_of (drop s.walk.pos src) ≡ x
       → order_from (frame_of f) (state_of (frame_of f) src dst s) x ≡ step (frame_of f) (state_of (frame_of f) src dst s)
   unfolding step
   step_from x e =
@@ -44,7 +44,7 @@ module _ (f : CodeFrame) (src dst : List ℕ) (s : CodeState) (begun : first_row
       λ i. order_from (frame_of f) (from i) (sym e i)
 
   -- its head was read
-  pub order_executes : {o : OrderHead} → HeadAt src s.pos o → (after : List ℕ) (r : Stepped)
+  pub order_executes : {o : OrderHead} → HeadAt src s.walk.pos o → (after : List ℕ) (r : Stepped)
       → Executes (frame_of f) src dst after (at_pos s o.next) r (order_of (frame_of f) (kind_in o.kind) o.run_length.pixels)
       → Executes (frame_of f) src dst after s r (step (frame_of f))
   unfolding order_from with_left
@@ -60,20 +60,20 @@ module _ (f : CodeFrame) (src dst : List ℕ) (s : CodeState) (begun : first_row
       }
 
   -- and the order reads on
-  pub order_read : {o : OrderHead} → HeadAt src s.pos o → (after : List ℕ) (r : Stepped)
+  pub order_read : {o : OrderHead} → HeadAt src s.walk.pos o → (after : List ℕ) (r : Stepped)
       → Executes (frame_of f) src dst after (at_pos s o.next) r (order_of (frame_of f) (kind_in o.kind) o.run_length.pixels)
-      → Executes (frame_of f) src dst after s r (step (frame_of f)) × (s.pos < r.state.pos) × (s.pos < length src)
+      → Executes (frame_of f) src dst after s r (step (frame_of f)) × (s.walk.pos < r.state.walk.pos) × (s.walk.pos < length src)
   order_read at after r d = (order_executes at after r d, omega (arith, at.reads, d.reads), omega (arith, at.reads, at.place))
 
   -- its head was refused
-  pub order-refused : {x : NoLength} → RefusedAt src s.pos x → Invariant (frame_of f) s
+  pub order-refused : {x : NoLength} → RefusedAt src s.walk.pos x → Invariant (frame_of f) s
       → Executes (frame_of f) src dst dst s (refused_in x.error (at_pos s x.next)) (step (frame_of f))
   unfolding order_from with_left end_with
   order-refused {x = x} at invariant =
       record {
         is = step_from _ at.is;
         rest = refl;
-        grows = le_refl s.pixels;
+        grows = le_refl s.walk.pixels;
         reads = omega (arith, at.reads);
         place = at.place;
         mark = refl;
@@ -98,7 +98,7 @@ between_start f src dst =
       continues = continues-start (frame_of f) src;
     }
 
-pub between_end : (f : Frame) (src dst₀ dst : List ℕ) (r : Stepped) → BetweenOrders f src dst₀ dst r.state → r.ending ≡ Ok tt → length src ≤ r.state.pos
+pub between_end : (f : Frame) (src dst₀ dst : List ℕ) (r : Stepped) → BetweenOrders f src dst₀ dst r.state → r.ending ≡ Ok tt → length src ≤ r.state.walk.pos
     → Decodes f src dst₀ dst r
 unfolding then_run end_with
 between_end f src dst₀ dst r between p h =
@@ -113,13 +113,13 @@ module _ (f : Frame) (src dst₀ dst : List ℕ) (s : CodeState) (between : Betw
   pub between_here : BetweenOrders f src dst dst s
   between_here = record { invariant = between.invariant; place = between.place; same = refl; rest = refl; continues = between.continues }
 
-  module _ (inside : s.pos < length src) where
-    more : 0 < length (drop s.pos src)
+  module _ (inside : s.walk.pos < length src) where
+    more : 0 < length (drop s.walk.pos src)
     more = rw length-drop (omega arith)
 
     module _ (after : List ℕ) (r : Stepped) (executes : Executes f src dst after s r (step f)) where
-      rest : drop (r.state.pixels * f.bytes) after ≡ drop (r.state.pixels * f.bytes) dst₀
-      rest = executes.rest ∙ rest_later f.bytes s.pixels r.state.pixels dst dst₀ executes.grows between.rest
+      rest : drop (r.state.walk.pixels * f.bytes) after ≡ drop (r.state.walk.pixels * f.bytes) dst₀
+      rest = executes.rest ∙ rest_later f.bytes s.walk.pixels r.state.walk.pixels dst dst₀ executes.grows between.rest
 
       pub decodes_refused : (e : RleError) → r.ending ≡ Err e → Decodes f src dst₀ after r
       decodes_refused e p =
@@ -132,7 +132,7 @@ module _ (f : Frame) (src dst₀ dst : List ℕ) (s : CodeState) (between : Betw
       pub between_refused : (limit : ℕ) (e : RleError) → r.ending ≡ Err e → decoded_to r.ending limit f src dst₀ after r
       between_refused limit e p = subst (λ (a : CodeEnding). decoded_to a limit f src dst₀ after r) (sym p) (decodes_refused e p)
 
-      pub between_on : r.ending ≡ Ok tt → s.pos < r.state.pos → length after ≡ length dst → BetweenOrders f src dst₀ after r.state
+      pub between_on : r.ending ≡ Ok tt → s.walk.pos < r.state.walk.pos → length after ≡ length dst → BetweenOrders f src dst₀ after r.state
       between_on p h k =
           record {
             invariant = executes.invariant;
@@ -141,11 +141,11 @@ module _ (f : Frame) (src dst₀ dst : List ℕ) (s : CodeState) (between : Betw
             rest = rest;
             continues =
                 continues_on between.continues more (ending_in r.ending) (state_of f src after r.state) executes.is (ap ending_in p)
-                (omega (arith, length-drop s.pos src, length-drop r.state.pos src, executes.place));
+                (omega (arith, length-drop s.walk.pos src, length-drop r.state.walk.pos src, executes.place));
           }
 
 -- the first row may end before an order
-pub between_marked : (f : CodeFrame) (src dst₀ dst : List ℕ) (s : CodeState) → BetweenOrders (frame_of f) src dst₀ dst s → s.pos < length src
+pub between_marked : (f : CodeFrame) (src dst₀ dst : List ℕ) (s : CodeState) → BetweenOrders (frame_of f) src dst₀ dst s → s.walk.pos < length src
     → BetweenOrders (frame_of f) src dst₀ dst (first_row_ended f s)
 between_marked f src dst₀ dst s between inside =
     record {
@@ -161,16 +161,16 @@ between_marked f src dst₀ dst s between inside =
 -- orders to a limit, from a target that was painted before
 module _ (f : Frame) (src dst₀ dst : List ℕ) (s : CodeState) (between : BetweenOrders f src dst₀ dst s) (limit : ℕ) (after : List ℕ) (r : Stepped)
     (to : DecodesTo limit f src dst after s r) where
-  further : drop (r.state.pixels * f.bytes) after ≡ drop (r.state.pixels * f.bytes) dst
-      → drop (r.state.pixels * f.bytes) after ≡ drop (r.state.pixels * f.bytes) dst₀
-  further e = e ∙ rest_later f.bytes s.pixels r.state.pixels dst dst₀ to.grows between.rest
+  further : drop (r.state.walk.pixels * f.bytes) after ≡ drop (r.state.walk.pixels * f.bytes) dst
+      → drop (r.state.walk.pixels * f.bytes) after ≡ drop (r.state.walk.pixels * f.bytes) dst₀
+  further e = e ∙ rest_later f.bytes s.walk.pixels r.state.walk.pixels dst dst₀ to.grows between.rest
 
   pub decoded-refused : (e : RleError) → r.ending ≡ Err e → Decodes f src dst₀ after r
   decoded-refused e p =
       let g : Decodes f src dst after r = subst (λ (a : CodeEnding). decoded_to a limit f src dst after r) p to.decoded in
       record { is = g.is; rest = further g.rest; invariant = g.invariant }
 
-  pub decoded_on : r.ending ≡ Ok tt → BetweenOrders f src dst₀ after r.state × (r.state.pos < length src → limit ≤ r.state.pixels)
+  pub decoded_on : r.ending ≡ Ok tt → BetweenOrders f src dst₀ after r.state × (r.state.walk.pos < length src → limit ≤ r.state.walk.pixels)
   decoded_on p =
       let g : decoded_to (Ok tt) limit f src dst after r = (rw p at to).decoded in (
         record {
@@ -181,6 +181,6 @@ module _ (f : Frame) (src dst₀ dst : List ℕ) (s : CodeState) (between : Betw
           continues = g.0.continues;
         },
         λ h.
-            let reached : limit < suc r.state.pixels = lt_of_not-le (λ l. let e = g.1 l in omega arith) in
+            let reached : limit < suc r.state.walk.pixels = lt_of_not-le (λ l. let e = g.1 l in omega arith) in
             omega arith,
       )

@@ -37,11 +37,11 @@ checked_in (Err e) = refused (refusal_of e)
 abbrev pub state_of : Frame → List ℕ → List ℕ → CodeState → State
 state_of f src dst s =
     record {
-      left = drop s.pos src;
-      painted = pixels_of f.bytes s.pixels dst;
+      left = drop s.walk.pos src;
+      painted = pixels_of f.bytes s.walk.pixels dst;
       foreground = s.foreground;
-      insert = s.insert;
-      first_row = s.first_row;
+      insert = s.walk.insert;
+      first_row = s.walk.first_row;
       orders = s.orders;
     }
 
@@ -62,27 +62,27 @@ row_above false w = w
 
 -- what holds of a state between orders
 pub record Invariant (f : Frame) (s : CodeState) : Type 0 where
-  pub within : s.pixels ≤ f.total
-  pub row : row_above s.first_row f.width ≤ s.pixels
+  pub within : s.walk.pixels ≤ f.total
+  pub row : row_above s.walk.first_row f.width ≤ s.walk.pixels
   pub foreground : OfDepth f.bytes s.foreground
-  pub counted : s.orders ≤ s.pixels
+  pub counted : s.orders ≤ s.walk.pixels
 
 -- in the first row a color, later by the pixel above
 abbrev pub fg_of : CodeState → CodeInk
-fg_of s = pick s.first_row (Solid s.foreground) (AboveXor s.foreground)
+fg_of s = pick s.walk.first_row (Solid s.foreground) (AboveXor s.foreground)
 
 abbrev pub bg_of : CodeFrame → CodeState → CodeInk
-bg_of f s = pick s.first_row (Solid f.depth.black) Above
+bg_of f s = pick s.walk.first_row (Solid f.depth.black) Above
 
 -- the ink that a pending insert begins a background run with
 abbrev pub insert_of : CodeState → Option CodeInk
-insert_of s = then_some s.insert (fg_of s)
+insert_of s = then_some s.walk.insert (fg_of s)
 
 -- the n pixels that come next
 pub record IsSpan (f : CodeFrame) (s : CodeState) (n : ℕ) (t : Span) : Type 0 where
   pub bytes : t.bytes ≡ f.depth.bytes
   pub width : t.width ≡ f.width
-  pub start : t.start ≡ s.pixels
+  pub start : t.start ≡ s.walk.pixels
   pub pixels : t.pixels ≡ n
 
 -- ---- the states that the functions here answer, exactly
@@ -91,10 +91,7 @@ abbrev pub with_fg : CodeState → Pixel → CodeState
 with_fg s p =
     record {
       foreground = p;
-      pos = s.pos;
-      insert = s.insert;
-      pixels = s.pixels;
-      first_row = s.first_row;
+      walk = s.walk;
       orders = s.orders;
     }
 
@@ -102,10 +99,7 @@ abbrev pub at_pos : CodeState → ℕ → CodeState
 at_pos s pos =
     record {
       foreground = s.foreground;
-      pos = pos;
-      insert = s.insert;
-      pixels = s.pixels;
-      first_row = s.first_row;
+      walk = record { pos = pos; insert = s.walk.insert; pixels = s.walk.pixels; first_row = s.walk.first_row };
       orders = s.orders;
     }
 
@@ -117,9 +111,9 @@ refused_in e s = record { ending = Err e; state = s }
 
 -- no number of the state behind a plan is too large
 pub record Fits (s : CodeState) (p : CodePlan) : Type 0 where
-  pub read : s.pos + p.read ≤ 18446744073709551615
-  pub pixels : s.pixels + p.pixels ≤ 67108864
-  pub counted : s.orders ≤ s.pixels
+  pub read : s.walk.pos + p.read ≤ 18446744073709551615
+  pub pixels : s.walk.pixels + p.pixels ≤ 67108864
+  pub counted : s.orders ≤ s.walk.pixels
 
 -- the ending and the state of an order that is carried out as planned
 abbrev pub finished_of : CodeState → CodePlan → Bool → Stepped
@@ -128,10 +122,7 @@ finished_of s p i =
       ending = p.ending;
       state = record {
         foreground = s.foreground;
-        pos = s.pos + p.read;
-        insert = insert_after (ending_in p.ending) i s.insert;
-        pixels = s.pixels + p.pixels;
-        first_row = s.first_row;
+        walk = record { pos = s.walk.pos + p.read; insert = insert_after (ending_in p.ending) i s.walk.insert; pixels = s.walk.pixels + p.pixels; first_row = s.walk.first_row };
         orders = orders_after (ending_in p.ending) s.orders;
       };
     }
@@ -139,13 +130,10 @@ finished_of s p i =
 abbrev pub first_row_ended : CodeFrame → CodeState → CodeState
 first_row_ended f s =
     record {
-      pos = s.pos;
-      pixels = s.pixels;
       foreground = s.foreground;
-      insert = pick s.first_row (pick (ltb s.pixels f.width) s.insert false) s.insert;
-      first_row = pick s.first_row (ltb s.pixels f.width) false;
+      walk = record { pos = s.walk.pos; pixels = s.walk.pixels; insert = pick s.walk.first_row (pick (ltb s.walk.pixels f.width) s.walk.insert false) s.walk.insert; first_row = pick s.walk.first_row (ltb s.walk.pixels f.width) false };
       orders = s.orders;
     }
 
 abbrev pub start_of : CodeFrame → CodeState
-start_of f = record { pos = 0; pixels = 0; foreground = f.depth.white; insert = false; first_row = true; orders = 0 }
+start_of f = record { walk = record { pos = 0; pixels = 0; insert = false; first_row = true }; foreground = f.depth.white; orders = 0 }

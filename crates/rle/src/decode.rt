@@ -37,7 +37,12 @@ pub(crate) fn decompress_by<D: Decoder>(
         return Err(RleError::BufferTooShort { needed, given });
     }
     let r = D::decode(src, dst, f);
-    Ok(Report::new(r.ending, r.state.pixels, r.state.orders, f.depth.format))
+    Ok(Report::new(
+        r.ending,
+        r.state.walk.pixels,
+        r.state.orders,
+        f.depth.format,
+    ))
 }
 
 // Orders from the state s on until `limit` pixels are painted, or to the stream's end or its refusal. In the first row the limit is
@@ -53,12 +58,12 @@ pub(crate) fn orders_to(
 ) -> Stepped
     requires fits { f.total * f.depth.bytes ≤ length dst.old }
     requires between_orders { BetweenOrders (frame_of f) src.now dst.old dst.old s }
-    requires first_row { s.first_row ≡ true → limit ≤ f.width }
+    requires first_row { s.walk.first_row ≡ true → limit ≤ f.width }
     ensures { DecodesTo limit (frame_of f) src.now dst.old dst.new s result }
 {
     let mut t = s;
-    while t.pixels < limit {
-        match read_head(src, headers, t.pos) {
+    while t.walk.pixels < limit {
+        match read_head(src, headers, t.walk.pos) {
             Ok(None) => return t.completed(),
             Err(r) => return t.moved(r.next).refused(r.error),
             Ok(Some(o)) => {
@@ -95,7 +100,7 @@ impl Decoder for Fast {
                 return r;
             }
             let t = r.state;
-            if src.len() <= t.pos {
+            if src.len() <= t.walk.pos {
                 return r;
             }
             s = t.end_first_row(f);

@@ -16,13 +16,16 @@ impl<'a> Order<'a> {
         ensures { CarriesOut self.entry orders.Kind.ColorImage dst.old dst.new result }
     {
         let s = self.state;
-        let left = self.src.len() - s.pos;
-        let p = self.frame.room(s.pixels).color_image(self.run_length, left);
+        let left = self.src.len() - s.walk.pos;
+        let p = self
+            .frame
+            .room(s.walk.pixels)
+            .color_image(self.run_length, left);
         if p.pixels == 0 {
             return s.finished(p, Kind::ColorImage);
         }
         s.span(self.frame, p.pixels)
-            .paint_image(&self.src[s.pos..], dst);
+            .paint_image(&self.src[s.walk.pos..], dst);
         s.finished(p, Kind::ColorImage)
     }
 
@@ -32,7 +35,7 @@ impl<'a> Order<'a> {
         ensures { CarriesOut self.entry (kind_in self.entry.kind) dst.old dst.new result }
     {
         let s = self.state;
-        let p = self.frame.room(s.pixels).run(Length { pixels: 8 });
+        let p = self.frame.room(s.walk.pixels).run(Length { pixels: 8 });
         let masks = [self.kind.special_mask()];
         s.span(self.frame, p.pixels)
             .paint_whole_masks(&masks, 0, dst, s.fg_ink());
@@ -46,13 +49,13 @@ impl<'a> Order<'a> {
         ensures { CarriesOut self.entry (kind_in self.entry.kind) dst.old dst.new result }
     {
         let s = self.state;
-        let left = self.src.len() - s.pos;
+        let left = self.src.len() - s.walk.pos;
         let p = self
             .frame
-            .room(s.pixels)
+            .room(s.walk.pixels)
             .fgbg_image(self.kind, self.run_length, left);
         let t = self.with_foreground();
-        let from = s.pos + self.kind.foreground_size(self.frame.depth.bytes);
+        let from = s.walk.pos + self.kind.foreground_size(self.frame.depth.bytes);
         s.span(self.frame, p.pixels)
             .paint_masks(self.src, from, dst, t.fg_ink());
         t.finished(p, self.kind)

@@ -18,7 +18,7 @@ pub(crate) struct Order<'a> {
     pub(crate) state: State,
     pub(crate) kind: Kind,
     pub(crate) run_length: Length,
-    pub(crate) ghost place: { state.pos ≤ length src.now },
+    pub(crate) ghost place: { state.walk.pos ≤ length src.now },
     pub(crate) ghost holds: { Invariant (frame_of frame) state },
     pub(crate) ghost fixed: { fixed_length kind run_length.pixels },
 }
@@ -33,12 +33,12 @@ impl<'a> Order<'a> {
     // The state with the foreground that an order of this kind reads, if it does and its bytes are there.
     #[inline(always)]
     pub(crate) fn with_foreground(self) -> State
-        ensures { result ≡ with_fg self.entry.state (plan.foreground_by self.entry.frame.depth.bytes (kind_in self.entry.kind) self.entry.state.foreground (drop self.entry.state.pos self.entry.src.now)) }
+        ensures { result ≡ with_fg self.entry.state (plan.foreground_by self.entry.frame.depth.bytes (kind_in self.entry.kind) self.entry.state.foreground (drop self.entry.state.walk.pos self.entry.src.now)) }
     {
         let d = self.frame.depth.bytes;
         let mut t = self.state;
-        if self.kind.sets_foreground() && d <= self.src.len() - t.pos {
-            let p = read_pixel(self.src, d, t.pos);
+        if self.kind.sets_foreground() && d <= self.src.len() - t.walk.pos {
+            let p = read_pixel(self.src, d, t.walk.pos);
             t.foreground = p;
         }
         t

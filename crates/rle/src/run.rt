@@ -21,7 +21,7 @@ impl<'a> Order<'a> {
         ensures { CarriesOut self.entry orders.Kind.BgRun dst.old dst.new result }
     {
         let s = self.state;
-        let p = self.frame.room(s.pixels).run(self.run_length);
+        let p = self.frame.room(s.walk.pixels).run(self.run_length);
         let span = s.span(self.frame, p.pixels);
         span.paint_bg_run(dst, s.insert_ink(), s.bg_ink(self.frame));
         s.finished(p, Kind::BgRun)
@@ -35,10 +35,10 @@ impl<'a> Order<'a> {
         ensures { CarriesOut self.entry (kind_in self.entry.kind) dst.old dst.new result }
     {
         let s = self.state;
-        let left = self.src.len() - s.pos;
+        let left = self.src.len() - s.walk.pos;
         let p = self
             .frame
-            .room(s.pixels)
+            .room(s.walk.pixels)
             .fg_run(self.kind, self.run_length, left);
         let t = self.with_foreground();
         s.span(self.frame, p.pixels).paint_fg_run(dst, t.fg_ink());
@@ -50,12 +50,15 @@ impl<'a> Order<'a> {
         ensures { CarriesOut self.entry orders.Kind.ColorRun dst.old dst.new result }
     {
         let s = self.state;
-        let left = self.src.len() - s.pos;
-        let p = self.frame.room(s.pixels).pixel_run(self.run_length, left);
+        let left = self.src.len() - s.walk.pos;
+        let p = self
+            .frame
+            .room(s.walk.pixels)
+            .pixel_run(self.run_length, left);
         if p.pixels == 0 {
             return s.finished(p, Kind::ColorRun);
         }
-        let color = read_pixel(self.src, self.frame.depth.bytes, s.pos);
+        let color = read_pixel(self.src, self.frame.depth.bytes, s.walk.pos);
         s.span(self.frame, p.pixels)
             .paint_run(dst, Ink::Solid(color));
         s.finished(p, Kind::ColorRun)
@@ -67,16 +70,16 @@ impl<'a> Order<'a> {
     {
         let s = self.state;
         let d = self.frame.depth.bytes;
-        let left = self.src.len() - s.pos;
+        let left = self.src.len() - s.walk.pos;
         let p = self
             .frame
-            .room(s.pixels)
+            .room(s.walk.pixels)
             .dithered_run(self.run_length, left);
         if p.pixels == 0 {
             return s.finished(p, Kind::DitheredRun);
         }
-        let a = read_pixel(self.src, d, s.pos);
-        let b = read_pixel(self.src, d, s.pos + d);
+        let a = read_pixel(self.src, d, s.walk.pos);
+        let b = read_pixel(self.src, d, s.walk.pos + d);
         s.span(self.frame, p.pixels).paint_dithered(dst, a, b);
         s.finished(p, Kind::DitheredRun)
     }
@@ -88,7 +91,7 @@ impl<'a> Order<'a> {
         ensures { CarriesOut self.entry (kind_in self.entry.kind) dst.old dst.new result }
     {
         let s = self.state;
-        let p = self.frame.room(s.pixels).pixel(self.kind);
+        let p = self.frame.room(s.walk.pixels).pixel(self.kind);
         if p.pixels == 0 {
             return s.finished(p, self.kind);
         }

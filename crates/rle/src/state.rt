@@ -9,18 +9,14 @@ use crate::kind::Kind;
 use crate::paint::Ink;
 use crate::plan::Plan;
 use crate::span::Span;
+use crate::walk::Walk;
 use picture::RleError;
 
-// Where decoding stands between orders: the foreground, the place in the stream, whether an insert is pending, the pixels painted,
-// the first-row mark, the orders completed. No two fields of one byte stand side by side: the compiler would pack them into one
-// register and take them apart at every order.
+// Where decoding stands between orders: the foreground, the walk, which a walk without a target has too, and the orders completed.
 #[derive(Clone, Copy)]
 pub(crate) struct State {
     pub(crate) foreground: [u8; 3],
-    pub(crate) pos: usize,
-    pub(crate) insert: bool,
-    pub(crate) pixels: usize,
-    pub(crate) first_row: bool,
+    pub(crate) walk: Walk,
     pub(crate) orders: usize,
 }
 
@@ -39,10 +35,7 @@ impl State {
         let foreground = f.depth.white;
         State {
             foreground,
-            pos: 0,
-            insert: false,
-            pixels: 0,
-            first_row: true,
+            walk: Walk::start(),
             orders: 0,
         }
     }
@@ -51,7 +44,7 @@ impl State {
     pub(crate) fn moved(mut self, pos: usize) -> Self
         ensures { result ≡ at_pos self pos }
     {
-        self.pos = pos;
+        self.walk.pos = pos;
         self
     }
 
@@ -79,10 +72,8 @@ impl State {
     pub(crate) fn end_first_row(mut self, f: Frame) -> Self
         ensures { result ≡ first_row_ended f self }
     {
-        if self.first_row && f.width <= self.pixels {
-            self.insert = false;
-            self.first_row = false;
-        }
+        let walk = self.walk.end_first_row(f.width);
+        self.walk = walk;
         self
     }
 
@@ -92,10 +83,10 @@ impl State {
         ensures { result ≡ finished_of self p (leaves_insert (kind_in kind)) }
     {
         let mut t = self;
-        t.pos = self.pos + p.read;
-        t.pixels = self.pixels + p.pixels;
+        t.walk.pos = self.walk.pos + p.read;
+        t.walk.pixels = self.walk.pixels + p.pixels;
         if p.ending.is_ok() {
-            t.insert = kind.leaves_insert();
+            t.walk.insert = kind.leaves_insert();
             t.orders = self.orders + 1;
         }
         Stepped {
@@ -109,7 +100,7 @@ impl State {
         ensures { result ≡ fg_of self }
     {
         let foreground = self.foreground;
-        if self.first_row {
+        if self.walk.first_row {
             Ink::Solid(foreground)
         } else {
             Ink::AboveXor(foreground)
@@ -121,7 +112,7 @@ impl State {
         ensures { result ≡ bg_of f self }
     {
         let black = f.depth.black;
-        if self.first_row {
+        if self.walk.first_row {
             Ink::Solid(black)
         } else {
             Ink::Above
@@ -132,18 +123,18 @@ impl State {
     pub(crate) fn insert_ink(self) -> Option<Ink>
         ensures { result ≡ insert_of self }
     {
-        self.insert.then_some(self.fg_ink())
+        self.walk.insert.then_some(self.fg_ink())
     }
 
     // The n pixels that come next.
     pub(crate) fn span(self, f: Frame, n: usize) -> Span
-        requires { self.pixels + n ≤ 67108864 }
+        requires { self.walk.pixels + n ≤ 67108864 }
         ensures { IsSpan f self n result }
     {
         Span {
             bytes: f.depth.bytes,
             width: f.width,
-            start: self.pixels,
+            start: self.walk.pixels,
             pixels: n,
         }
     }

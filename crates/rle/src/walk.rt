@@ -16,13 +16,14 @@ use crate::record::OrderRecord;
 use crate::report::Report;
 use picture::RleError;
 
-// Where a walk stands between two orders: the place in the stream, the pixels painted, whether an insert is pending, the first-row
-// mark.
+// Where a walk stands between two orders: the place in the stream, whether an insert is pending, the pixels painted, the first-row
+// mark. The decoder's state has it too, and for its sake no two fields of one byte stand side by side: the compiler would pack them
+// into one register and take them apart at every order.
 #[derive(Clone, Copy, Debug, PartialEq, Eq)]
 pub struct Walk {
     pub pos: usize,
-    pub pixels: usize,
     pub insert: bool,
+    pub pixels: usize,
     pub first_row: bool,
 }
 
@@ -33,8 +34,8 @@ impl Walk {
     {
         Walk {
             pos: 0,
-            pixels: 0,
             insert: false,
+            pixels: 0,
             first_row: true,
         }
     }

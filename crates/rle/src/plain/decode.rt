@@ -17,9 +17,9 @@ impl Decoder for Plain {
         loop {
             let mut t = s;
             // The first row ends for good once it is painted, and a pending insert is dropped there.
-            t.first_row &= s.pixels < f.width;
-            t.insert &= t.first_row == s.first_row;
-            match read_head(src, &headers, s.pos) {
+            t.walk.first_row &= s.walk.pixels < f.width;
+            t.walk.insert &= t.walk.first_row == s.walk.first_row;
+            match read_head(src, &headers, s.walk.pos) {
                 Ok(None) => {
                     return Stepped {
                         ending: Ok(()),
@@ -27,14 +27,14 @@ impl Decoder for Plain {
                     };
                 }
                 Err(r) => {
-                    t.pos = r.next;
+                    t.walk.pos = r.next;
                     return Stepped {
                         ending: Err(r.error),
                         state: t,
                     };
                 }
                 Ok(Some(o)) => {
-                    t.pos = o.next;
+                    t.walk.pos = o.next;
                     let next = Order {
                         src,
                         frame: f,

@@ -21,10 +21,10 @@ use crate::state::{State, Stepped};
 // The foreground that the order leaves: the one that stands first in its operands, if it reads one and its bytes are there, else the
 // state's.
 pub(crate) fn order_foreground(o: Order<'_>) -> [u8; 3]
-    ensures { result ≡ plan.foreground_by o.entry.frame.depth.bytes (kind_in o.entry.kind) o.entry.state.foreground (drop o.entry.state.pos o.entry.src.now) }
+    ensures { result ≡ plan.foreground_by o.entry.frame.depth.bytes (kind_in o.entry.kind) o.entry.state.foreground (drop o.entry.state.walk.pos o.entry.src.now) }
 {
     let d = o.frame.depth.bytes;
-    let pos = o.state.pos;
+    let pos = o.state.walk.pos;
     if o.kind.sets_foreground() && d <= o.src.len() - pos {
         return read_pixel(o.src, d, pos);
     }
@@ -38,7 +38,7 @@ pub(crate) fn row_inks(f: Frame, s: State) -> (Ink, Ink)
 {
     let foreground = s.foreground;
     let black = f.depth.black;
-    if s.first_row {
+    if s.walk.first_row {
         return (Ink::Solid(foreground), Ink::Solid(black));
     }
     (Ink::AboveXor(foreground), Ink::Above)
@@ -47,26 +47,26 @@ pub(crate) fn row_inks(f: Frame, s: State) -> (Ink, Ink)
 // The order's n pixels, in the state with its foreground.
 pub(crate) fn paint_order(dst: &mut [u8], o: Order<'_>, n: usize)
     requires place { HasPicture o dst.old }
-    requires room { o.state.pixels + n ≤ o.frame.total }
-    requires operands { HasOperands o.kind o.frame.depth.bytes n (length o.src.now - o.state.pos) }
-    ensures { Painted o.entry.frame.depth.bytes o.entry.frame.width (plan.kind_ink (frame_of o.entry.frame) (kind_in o.entry.kind) o.entry.state.insert (ink_of (fg_of o.entry.state)) (ink_of (bg_of o.entry.frame o.entry.state)) (drop o.entry.state.pos o.entry.src.now)) o.entry.state.pixels n dst.old dst.new }
+    requires room { o.state.walk.pixels + n ≤ o.frame.total }
+    requires operands { HasOperands o.kind o.frame.depth.bytes n (length o.src.now - o.state.walk.pos) }
+    ensures { Painted o.entry.frame.depth.bytes o.entry.frame.width (plan.kind_ink (frame_of o.entry.frame) (kind_in o.entry.kind) o.entry.state.walk.insert (ink_of (fg_of o.entry.state)) (ink_of (bg_of o.entry.frame o.entry.state)) (drop o.entry.state.walk.pos o.entry.src.now)) o.entry.state.walk.pixels n dst.old dst.new }
 {
     if n == 0 {
         return;
     }
     let src = o.src;
-    let pos = o.state.pos;
+    let pos = o.state.walk.pos;
     let d = o.frame.depth.bytes;
     let w = o.frame.width;
     let span = Span {
         bytes: d,
         width: w,
-        start: o.state.pixels,
+        start: o.state.walk.pixels,
         pixels: n,
     };
     let (fg, bg) = row_inks(o.frame, o.state);
     match o.kind {
-        Kind::BgRun => paint_bg_run(dst, span, o.state.insert.then_some(fg), bg),
+        Kind::BgRun => paint_bg_run(dst, span, o.state.walk.insert.then_some(fg), bg),
         Kind::FgRun | Kind::SetFgRun => paint_run(dst, span, fg),
         Kind::FgBgImage | Kind::SetFgBgImage => {
             paint_masks(src, pos + o.kind.foreground_size(d), dst, span, fg, bg)
@@ -94,8 +94,11 @@ pub(crate) fn order(dst: &mut [u8], o: Order<'_>) -> Stepped
     ensures { CarriesOut o.entry (kind_in o.entry.kind) dst.old dst.new result }
 {
     let s = o.state;
-    let left = o.src.len() - s.pos;
-    let p = o.frame.room(s.pixels).order(o.kind, o.run_length, left);
+    let left = o.src.len() - s.walk.pos;
+    let p = o
+        .frame
+        .room(s.walk.pixels)
+        .order(o.kind, o.run_length, left);
     let mut t = s;
     let foreground = order_foreground(o);
     t.foreground = foreground;
@@ -107,11 +110,11 @@ pub(crate) fn order(dst: &mut [u8], o: Order<'_>) -> Stepped
         run_length: o.run_length,
     };
     paint_order(dst, with_foreground, p.pixels);
-    t.pos = s.pos + p.read;
-    t.pixels = s.pixels + p.pixels;
+    t.walk.pos = s.walk.pos + p.read;
+    t.walk.pixels = s.walk.pixels + p.pixels;
     // A refused order leaves the insert as it was, and is not counted.
     if p.ending.is_ok() {
-        t.insert = o.kind.leaves_insert();
+        t.walk.insert = o.kind.leaves_insert();
         t.orders = s.orders + 1;
     }
     Stepped {

@@ -10,7 +10,7 @@ use Rattle.rle.proofs.decode.orders_to.Given as goal
 
 abbrev pub invariant-loop-t : goal.invariant-loop-t
 invariant-loop-t l =
-    BetweenOrders (frame_of l.f) l.src l.initial.dst l.dst l.t × (l.initial.t.pixels ≤ l.t.pixels) × (l.t.first_row ≡ true → l.limit ≤ l.f.width)
+    BetweenOrders (frame_of l.f) l.src l.initial.dst l.dst l.t × (l.initial.t.walk.pixels ≤ l.t.walk.pixels) × (l.t.walk.first_row ≡ true → l.limit ≤ l.f.width)
 
 abbrev pub decreases-loop-t : goal.decreases-loop-t
-decreases-loop-t l = length l.src - l.t.pos
+decreases-loop-t l = length l.src - l.t.walk.pos

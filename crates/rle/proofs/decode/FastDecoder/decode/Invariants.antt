@@ -9,7 +9,7 @@ use Rattle.rle.proofs.decode.FastDecoder.decode.Given as goal
 
 abbrev pub invariant-loop-f : goal.invariant-loop-f
 invariant-loop-f l =
-    BetweenOrders (frame_of l.f) l.src l.initial.dst l.dst l.s × (l.s.first_row ≡ true → l.limit ≤ l.f.width) × (l.f.width ≤ l.limit)
+    BetweenOrders (frame_of l.f) l.src l.initial.dst l.dst l.s × (l.s.walk.first_row ≡ true → l.limit ≤ l.f.width) × (l.f.width ≤ l.limit)
 
 abbrev pub decreases-loop-f : goal.decreases-loop-f
 decreases-loop-f l = l.f.total + 1 - l.limit

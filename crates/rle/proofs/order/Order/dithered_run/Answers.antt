@@ -60,6 +60,6 @@ pub returns : goal.returns
 unfolding counts_of foreground_in insert_in kind_ink leaves
 returns c =
     let first = c.read_pixel-a.ensures in
-    let second = c.read_pixel-b.ensures ∙ ap (λ (l : List ℕ). first_pixel c.args.self.frame.depth.bytes l) (sym (drop-drop c.args.self.frame.depth.bytes c.args.self.state.pos c.args.self.src.now)) in
+    let second = c.read_pixel-b.ensures ∙ ap (λ (l : List ℕ). first_pixel c.args.self.frame.depth.bytes l) (sym (drop-drop c.args.self.frame.depth.bytes c.args.self.state.walk.pos c.args.self.src.now)) in
     executes_finished _ _ _ (ready c.args.self _ c.requires) c.args.self.place DitheredRun c.dithered_run-p.result (rw (c.room.ensures.0, c.room.ensures.1) at c.dithered_run-p.ensures) refl c.finished-2.ensures
     (painted_as (λ j _ h. dither_ink (first h) (second h) j) (next-painted c.span.ensures c.paint_dithered.ensures))

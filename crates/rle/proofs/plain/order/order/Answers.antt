@@ -39,13 +39,13 @@ overflow_add-t-2 c = omega (arith, (fits (ready c.args.o _ c.requires) (kind_in 
 pub returns-then-is_ok : goal.returns-then-is_ok
 returns-then-is_ok c =
     let a = c.args in
-    let e = after_ok c.order-p.result.ending c.if-is_ok.ensures.value c.leaves_insert.result a.o.state.insert a.o.state.orders in
+    let e = after_ok c.order-p.result.ending c.if-is_ok.ensures.value c.leaves_insert-t.result a.o.state.walk.insert a.o.state.orders in
     executes_painted a.o a.dst.now a.o.kind c.order_foreground-foreground.ensures c.requires c.order-p.result
-    (rw (c.room.ensures.0, c.room.ensures.1) at c.order-p.ensures) (rw (← c.leaves_insert.ensures, e.0, e.1)) c.paint_order.ensures
+    (rw (c.room.ensures.0, c.room.ensures.1) at c.order-p.ensures) (rw (← c.leaves_insert-t.ensures, e.0, e.1)) c.paint_order.ensures
 
 pub returns-else-is_ok : goal.returns-else-is_ok
 returns-else-is_ok c =
     let a = c.args in
-    let e = after_err c.order-p.result.ending c.if-is_ok.ensures.value (leaves_insert (kind_in a.o.kind)) a.o.state.insert a.o.state.orders in
+    let e = after_err c.order-p.result.ending c.if-is_ok.ensures.value (leaves_insert (kind_in a.o.kind)) a.o.state.walk.insert a.o.state.orders in
     executes_painted a.o a.dst.now a.o.kind c.order_foreground-foreground.ensures c.requires c.order-p.result
     (rw (c.room.ensures.0, c.room.ensures.1) at c.order-p.ensures) (rw (e.0, e.1)) c.paint_order.ensures

@@ -64,7 +64,7 @@ pub returns-in-DitheredRun : goal.returns-in-DitheredRun
 unfolding kind_ink
 returns-in-DitheredRun c =
     let a = c.args in
-    let behind = drop-drop a.o.frame.depth.bytes a.o.state.pos a.o.src.now in
+    let behind = drop-drop a.o.frame.depth.bytes a.o.state.walk.pos a.o.src.now in
     rw c.in-DitheredRun.is (rw (c.read_pixel-a.ensures, c.read_pixel-b.ensures, ← behind) at c.paint_dithered.ensures)
 
 pub returns-in-White : goal.returns-in-White

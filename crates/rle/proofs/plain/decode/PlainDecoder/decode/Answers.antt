@@ -22,7 +22,7 @@ returns-in-Err c =
     let l = c.loop-o in
     let a = c.args in
     let at = c.in-Err.ensures in
-    let inside : l.s.pos < length a.src.now = omega (arith, at.reads, at.place) in
+    let inside : l.s.walk.pos < length a.src.now = omega (arith, at.reads, at.place) in
     let marked = between_marked a.f _ _ _ l.s l.invariant inside in
     rw (insert_ended c.args.f c.loop-o.s, row_ended c.args.f c.loop-o.s)
     (decodes_refused _ _ _ _ _ marked inside _ _ (order-refused a.f _ _ (first_row_ended a.f l.s) (row_again a.f l.s) at marked.invariant) _ refl)

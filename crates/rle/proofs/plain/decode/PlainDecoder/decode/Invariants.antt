@@ -9,4 +9,4 @@ abbrev pub invariant-loop-o : goal.invariant-loop-o
 invariant-loop-o l = BetweenOrders (frame_of l.f) l.src l.initial.dst l.dst l.s
 
 abbrev pub decreases-loop-o : goal.decreases-loop-o
-decreases-loop-o l = length l.src - l.s.pos
+decreases-loop-o l = length l.src - l.s.walk.pos
