@@ -2,7 +2,7 @@
 use Rattle.std.proofs.Common.{◌≡◌, ℕ, ◌+◌, ◌-◌, refl, ap, arith, get_or, rules}
 use lib.ListN.{length-set}
 use Rattle.std.specs.Prelude.{Some}
-use Rattle.byte_runs.specs.Runs.{run, xored, each, row_bytes}
+use Rattle.byte_runs.specs.Runs.{run, each, row_bytes}
 use Rattle.byte_runs.proofs.Pixels.{row_byte}
 use Rattle.byte_runs.proofs.Runs.{store_more}
 use Rattle.xor.proofs.xor_pixel.Goals as goal
