@@ -10,7 +10,7 @@ unfoldable pub remaining : List ℕ → ℕ → ℕ
 remaining s pos = length s - pos
 
 -- the value where enough bytes are left, else how many were expected and how many are left
-unfoldable pub read_of : ℕ → ℕ → ℕ → Result ℕ RleError
+unfoldable pub read_of : {A : Type 0} → ℕ → ℕ → A → Result A RleError
 read_of expected left value = pick (leb expected left) (Ok value) (Err (NotEnoughBytes expected left))
 
 -- the byte at a place

@@ -53,6 +53,13 @@ run-before v at zero i l h = refl
 run-before v at (suc n) i l h =
     get_or-set_other (run v at n l) (at + n) i (v (run v at n l) n) 0 (λ (e : i ≡ at + n). omega arith) ∙ run-before v at n i l h
 
+-- so does what stands behind it
+pub run_behind : (v : List ℕ → ℕ → ℕ) (at n i : ℕ) (l : List ℕ) → at + n ≤ i → get_or (run v at n l) i 0 ≡ get_or l i 0
+unfolding run
+run_behind v at zero i l h = refl
+run_behind v at (suc n) i l h =
+    get_or-set_other (run v at n l) (at + n) i (v (run v at n l) n) 0 (λ (e : i ≡ at + n). omega arith) ∙ run_behind v at n i l (omega arith)
+
 -- what is written stays
 run_stays : (v : List ℕ → ℕ → ℕ) (at m n i : ℕ) (l : List ℕ) → i < at + m → get_or (run v at (m + n) l) i 0 ≡ get_or (run v at m l) i 0
 run_stays v at m n i l h =

@@ -1,10 +1,13 @@
-// Runs of bytes in a target: specs/ has the definition, proofs/ its laws. `copy`, `fill`, `xor` and `mask` write them.
+// Runs of bytes in a target: specs/ has the definition, proofs/ its laws. `copy`, `fill`, `xor` and `mask` write them. Where places go with a
+// depth, a struct holds its bounds (`Xored` of `xor`, `Masked` of `mask`, `Span` of `rle`); `Depth` and `Eight` are asked for where it goes
+// alone or with one place, where the row above may be missing, and where numbers take fewer instructions (`rle`).
 #![tactic(auto)]
 
 ghost use Rattle.std.specs.Prelude.{◌≡◌, true, ℕ, ◌+◌, ◌*◌, ◌/◌, ◌≤◌, ◌<◌, leb, length, slice_index};
-ghost use Rattle.byte_runs.specs.Runs.{both, bytes, each, is_depth, run, turn};
+ghost use Rattle.byte_runs.specs.Runs.{Depth, both, bytes, each, is_depth, run, turn};
 
-// Whether n pixels of d bytes have a place in `room` bytes.
+// Whether n pixels of d bytes have a place in `room` bytes. A product by `checked_mul` is plainer, but the compiler does not see that a part
+// has room for just that product, so that runs take 5 to 36 instructions more.
 pub fn pixels_fit(d: usize, n: usize, room: usize) -> bool
     ensures { result ≡ both (is_depth d) (leb (n * d) room) }
 {
@@ -16,20 +19,20 @@ pub fn pixels_fit(d: usize, n: usize, room: usize) -> bool
     }
 }
 
-// The first D bytes of a pixel, by an index: a proof knows nothing of a slice's elements once `iter_mut().zip` has lent them.
+// The first D bytes of a pixel. `mask` and `xor` have writers of their own, of a block's bytes (`store`) and of a pixel exclusive-or the one
+// above (`put_bit`, `xor_pixel`): a public function has no `requires`, so that one for all would test its places at each pixel.
 fn put_pixel<const D: usize>(dst: &mut [u8], at: usize, pixel: [u8; 3])
-    requires { (D ≤ 3) × (at + D ≤ length dst.old) }
+    requires { Depth D × (at + D ≤ length dst.old) }
     ensures { dst.new ≡ run (bytes (each pixel)) at D dst.old }
 {
-    for j in 0..D {
-        dst[at + j] = pixel[j];
-    }
+    dst[at..at + D].copy_from_slice(&pixel[..D]);
 }
 
-// The first D bytes of a pixel over and over, as often as N bytes hold them. By `from_fn`, with a remainder for each byte, orders of 16
-// pixels take some 475 instructions more at 24 bpp.
+// The first D bytes of a pixel over and over, as often as N bytes hold them, and zeros behind them; zeros alone where D is no depth. By
+// `from_fn`, with a remainder for each byte, orders of 16 pixels take some 475 instructions more at 24 bpp.
 pub fn pattern<const D: usize, const N: usize>(pixel: [u8; 3]) -> [u8; N]
-    ensures { is_depth D ≡ true → (k : ℕ) → k < N / D * D → slice_index result k ≡ turn pixel D k }
+    ensures whole { is_depth D ≡ true → (k : ℕ) → k < N / D * D → slice_index result k ≡ turn pixel D k }
+    ensures rest { (k : ℕ) → (is_depth D ≡ true → N / D * D ≤ k) → slice_index result k ≡ 0 }
 {
     let mut t = [0; N];
     if D == 0 || 3 < D {

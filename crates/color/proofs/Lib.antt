@@ -1,6 +1,7 @@
 pub mod Channels
 pub mod Whites
 pub mod Triples
+pub mod Entries
 pub mod Lowest
 pub mod Every
 pub mod Bytes

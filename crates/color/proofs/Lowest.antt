@@ -1,16 +1,17 @@
 -- Palette look gives the lowest index that has the triple, and nothing exactly if none has it; no other answer is right. Assumes nothing.
-use mathlib.Core.Path.{◌≡◌, refl}
+use mathlib.Core.Path.{◌≡◌, refl, sym, ◌∙◌}
 use mathlib.Core.List.{List, [], ◌∷◌, ◌++◌}
 use mathlib.Core.Bool.{true, false}
 use Prim.Native.Nat.{ℕ, zero, suc, ◌+◌, ◌≤◌, ◌<◌, zero-le}
 use native.Mathlib.Omega.{arith}
 use lib.Dec.{leb}
-use lib.ListN.{length, replicate}
+use lib.ListN.{length, get_or, replicate}
 use borrow.Author.Tests.{leb-true, leb-false, le-leb}
 use Rattle.base.proofs.Tests.{by_test, by_less, before_or_last, clash, apart}
 use Rattle.picture.specs.Pixels.{pixel_at, first_pixel}
 use Rattle.picture.proofs.Pixels.{length-first_pixel}
 use Rattle.std.specs.Prelude.{Option, Some, None, MatchOption}
+use Rattle.std.specs.List.{AllWithin, HoldsAt}
 use Rattle.std.specs.Str.{bytes_eq}
 use Rattle.std.proofs.lemmas.Slice.Eq.{bytes_eq-Decides}
 use Rattle.color.specs.Colors.{Triple, same_triple, entry}
@@ -67,21 +68,25 @@ module _ (palette : List ℕ) (t : Triple) (three : length t ≡ 3) where
   pub looked_lowest : (r : Option ℕ) → Looked palette t r → r ≡ lowest_index palette t
   looked_lowest r p = only_answer r (lowest_index palette t) p lowest_looked
 
--- ---- what a search over the indices finds
+-- ---- what a search over the entries finds
 
-module _ (palette : List ℕ) (t : Triple) (long : 768 ≤ length palette) where
-  abbrev Differs : ℕ → Type 0
-  Differs k = bytes_eq (entry palette k) t ≡ false
+module _ (palette : List ℕ) (t : Triple) (long : 768 ≤ length palette) (entries : List Triple) (count : length entries ≡ 256)
+    (are : (i : ℕ) (d : Triple) → i < 256 → get_or entries i d ≡ entry palette i) where
+  abbrev Differs : Triple → Type 0
+  Differs e = bytes_eq e t ≡ false
 
-  differs_lem : (k : ℕ) → Differs k → entry palette k ≡ t → ⊥
-  differs_lem k e is = clash ((bytes_eq-Decides (entry palette k) t).1 is) e
+  differs_lem : (k : ℕ) → k < 256 → Differs (get_or entries k []) → entry palette k ≡ t → ⊥
+  differs_lem k h e is = clash ((bytes_eq-Decides (get_or entries k []) t).1 (are k [] h ∙ is)) e
 
   pub looked_first : (r : Option ℕ)
-      → MatchOption r ((k : ℕ) → 0 ≤ k → k < 256 → Differs k)
-      (λ i. (0 ≤ i) × (i < 256) × (bytes_eq (entry palette i) t ≡ true) × ((k : ℕ) → 0 ≤ k → k < i → Differs k)) → Looked palette t r
-  looked_first None none = λ i m. differs_lem i (none i zero-le m.index) m.equal
-  looked_first (Some i) (l, h, e, before) =
-      (record { long = long; index = h; equal = (bytes_eq-Decides (entry palette i) t).0 e }, λ k b m. differs_lem k (before k zero-le b) m.equal)
+      → MatchOption r (AllWithin Differs entries 0 (length entries))
+      (λ i. (i < length entries) × HoldsAt (λ e. bytes_eq e t ≡ true) entries i × AllWithin Differs entries 0 i) → Looked palette t r
+  looked_first None none = λ i m. differs_lem i m.index (none i [] zero-le (rw count m.index)) m.equal
+  looked_first (Some i) (h, e, before) =
+      let index : i < 256 = rw count at h in (
+        record { long = long; index = index; equal = sym (are i [] index) ∙ (bytes_eq-Decides (get_or entries i []) t).0 (e []) },
+        λ k b m. differs_lem k m.index (before k [] zero-le b) m.equal,
+      )
 
 -- ---- two palettes
 

@@ -3,7 +3,7 @@ ghost use Rattle.std.specs.Prelude.{◌≡◌, ◌<◌};
 ghost use Rattle.color.specs.Colors.{channel, expand_word, expanded, expansion_in};
 ghost use Rattle.color.specs.Promises.{ChannelValues};
 
-use crate::palette::entry_at;
+use crate::palette::PALETTE_BYTES;
 use picture::RleError;
 
 // A channel of N values as a byte. The low bits repeat the high ones, so that the largest value gives 255.
@@ -42,11 +42,11 @@ pub fn expand(pixel: [u8; 3], bpp: usize, palette: &[u8]) -> Result<[u8; 3], Rle
     ensures { expansion_in result ≡ expanded palette.now bpp pixel }
 {
     match bpp {
-        8 if palette.len() < 768 => Err(RleError::BufferTooShort {
-            needed: 768,
+        8 if palette.len() < PALETTE_BYTES => Err(RleError::BufferTooShort {
+            needed: PALETTE_BYTES,
             given: palette.len(),
         }),
-        8 => Ok(entry_at(palette, usize::from(pixel[0]))),
+        8 => Ok(palette.as_chunks::<3>().0[usize::from(pixel[0])]),
         15 => Ok(from_two_bytes::<32>(pixel)),
         16 => Ok(from_two_bytes::<64>(pixel)),
         24 => Ok(pixel),

@@ -3,9 +3,11 @@ ghost use Rattle.std.specs.Prelude.{◌≡◌};
 ghost use Rattle.color.specs.Colors.{both};
 ghost use Rattle.color.specs.SamePicture.{same_picture, valid, picture_of};
 
+use crate::palette::PALETTE_BYTES;
 use picture::{bytes_per_pixel, picture_size};
 
-// A picture's numbers: `pixels` of its pixels are painted. Its bytes stand in a slice beside it.
+// A picture's numbers: `pixels` of its pixels are painted. Its bytes stand in a slice beside it. Depth and sizes stand one by one, as
+// `picture_size` takes them.
 #[derive(Clone, Copy, Debug, PartialEq, Eq)]
 pub struct Shape {
     pub pixels: usize,
@@ -15,7 +17,8 @@ pub struct Shape {
 }
 
 impl Shape {
-    // Depth and sizes, space for the whole picture, the pixel count, and the palette where the depth needs one.
+    // Depth and sizes, space for the whole picture, the pixel count, and the palette where the depth needs one. That is at 8 bits, by the
+    // number: a shape has no format, and one would be looked up for this test alone.
     #[tactic(auto, unfolding(crate::specs::SamePicture::valid, crate::specs::Colors::palette_fits, picture::specs::Sizes::has_space))]
     fn is_valid(self, bytes: &[u8], palette: &[u8]) -> bool
         ensures { result ≡ valid palette.now (picture_of bytes.now self) }
@@ -26,7 +29,7 @@ impl Shape {
         };
         size <= bytes.len()
             && self.pixels <= self.width * self.height
-            && (self.bpp != 8 || 768 <= palette.len())
+            && (self.bpp != 8 || PALETTE_BYTES <= palette.len())
     }
 
     // Whether two slices hold valid pictures of this shape. Where the first does, so does a second that is not shorter.

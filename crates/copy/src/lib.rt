@@ -1,5 +1,6 @@
-// Copies of bytes into a target, from a row back or from another slice. Target, place, length and row go on one by one: a struct that has
-// the target lent would be made for one call.
+// Copies of bytes into a target, from a row back or from another slice. Place, length and row go on one by one: behind
+// `copy_back` only `copy_rows` and `copy_row` take all three, and the one calls the other with other numbers for each, so that a struct would
+// be made anew at each call.
 #![tactic(auto)]
 
 ghost use Rattle.std.specs.Prelude.{◌≡◌, ◌+◌, ◌≤◌, ◌<◌, leb, length};

@@ -9,9 +9,9 @@ ghost use Rattle.decoder_state.specs.States.{saved_in};
 
 use picture::depth_of;
 
-// The foreground, the place in the stream, whether an insert is pending, the pixels painted, the first-row mark, the orders completed: the
-// value that a caller keeps between two calls; nothing calls it yet. The decoder's own state (`rle`, src/state.rt) has the same fields, and
-// methods that take `rle`'s frames, plans and spans. A type has its methods in its own crate alone, and those types are not known here.
+// The foreground, the place in the stream, whether an insert is pending, the pixels painted, the first-row mark, the orders completed, one by
+// one: the value that a caller keeps between two calls. The decoder's own state (`rle`, src/state.rt) holds four of them as a walk, which a
+// walk without a target has too. As one type, all its methods, which take frames, plans and spans, would need a trait in `rle`.
 #[derive(Clone, Copy, Debug, PartialEq, Eq)]
 pub struct State {
     pub foreground: [u8; 3],
@@ -27,11 +27,7 @@ impl State {
     pub fn start(bpp: usize) -> State
         ensures { saved_in result ≡ start_at bpp }
     {
-        // Of a closure that gives an array, as for `map_or`, the proof does not learn which it is.
-        let white = match depth_of(bpp) {
-            Some(depth) => depth.white,
-            None => [0; 3],
-        };
+        let white = depth_of(bpp).white;
         State {
             foreground: white,
             pos: 0,

@@ -120,3 +120,33 @@ block_agrees a b i m l so_far fits e =
     (λ k.
     let g : i + (j - i) ≡ j = omega arith in
     rw g at (sym (part a i m (j - i) (omega arith)) ∙ same.1 (j - i) ∙ part b i m (j - i) (omega arith))))
+
+-- the differences of what is the same, gathered
+same_gathers : (a b : List ℕ) (all : ℕ) → length a ≡ length b → ((i : ℕ) → i < length a → get_or a i 0 ≡ get_or b i 0) → all ≡ 0
+    → fold (λ all (p : ℕ × ℕ). bit_or all (bit_xor p.0 p.1)) all (zip a b) ≡ 0
+same_gathers [] [] all l same e = e
+same_gathers [] (y ∷ b) all l same e = absurd (omega arith)
+same_gathers (x ∷ a) [] all l same e = absurd (omega arith)
+same_gathers (x ∷ a) (y ∷ b) all l same e =
+    same_gathers a b (bit_or all (bit_xor x y)) (omega arith) (λ i h. same (suc i) (omega arith))
+    (eqb-true (bit_or all (bit_xor x y)) 0 (gathered all x y ∙ rw (eq-eqb all 0 e) (eq-eqb x y (same 0 (omega arith)))))
+
+-- so a block that differs ends them, and one of one byte ends them where it begins
+pub block_differs : (a b : List ℕ) (i m : ℕ) → length a ≡ length b → i + m ≤ length a → (difference (take m (drop i a)) (take m (drop i b)) ≡ 0 → ⊥)
+    → (same_start a b < i + m) × (i ≤ same_start a b → m ≡ 1 → same_start a b ≡ i)
+block_differs a b i m l fits d = (ends, λ so_far one. omega (arith, ends))
+  where
+    here : length (take m (drop i a)) ≡ m
+    here = length-take-le m (drop i a) (rw length-drop (omega arith))
+
+    back : length (take m (drop i b)) ≡ m
+    back = length-take-le m (drop i b) (rw length-drop (omega arith))
+
+    ends : same_start a b < i + m
+    ends =
+        by_less (same_start a b) (i + m) (λ h. h) (λ h.
+        absurd
+        (d
+        (same_gathers (take m (drop i a)) (take m (drop i b)) 0 (here ∙ sym back) (λ j k.
+        part a i m j (rw here at k) ∙ start_passes a b (i + j) (omega (arith, rw here at k)) ∙ sym (part b i m j (rw here at k)))
+        refl)))

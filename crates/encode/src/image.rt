@@ -3,7 +3,7 @@ ghost use Rattle.std.specs.Prelude.{◌≡◌, ◌<◌};
 ghost use Rattle.encoding.specs.Encode.{image_at};
 ghost use Rattle.encode.specs.Pixels.{pixels_in};
 
-use crate::bytes::same_bytes;
+use crate::bytes::Compared;
 use crate::pixels::{Pixels, Place};
 
 // Pixels of D bytes. By the constant a pixel of noise takes 13, 14 and 16 instructions at 8, 16 and 24 bpp; by `bytes`, and an index over
@@ -26,7 +26,11 @@ impl<const D: usize> PixelsOf<'_, D> {
     {
         let src = self.pixels.src;
         let back = k - row;
-        same_bytes(&src[k * D..(k + n) * D], &src[back * D..(back + n) * D])
+        Compared {
+            here: &src[k * D..(k + n) * D],
+            back: &src[back * D..(back + n) * D],
+        }
+        .same_bytes()
     }
 
     // Whether a run starts at pixel k, which does not directly follow a background run, and has two pixels behind it: with fewer there

@@ -50,7 +50,7 @@ pub fn compress(
 
 // The most bytes that the stream of a picture of this depth and these sizes has: with so many, `compress` never finds the output too
 // short. 0 where there are no such pictures, in place of None: the call never fails, as the one for C which hands the number on. By
-// `match`: a closure, as for `map_or`, would need a contract of its own that says that the sum fits.
+// `match`: a closure, as for `map_or`, would need a contract of its own that says that the sum fits. Depth and sizes as for `compress`.
 pub fn compress_bound(width: usize, height: usize, bpp: usize) -> usize
     ensures { result ≡ bound bpp width height }
 {

@@ -2,7 +2,7 @@
 ghost use Rattle.std.specs.Prelude.{◌≡◌, ◌-◌};
 ghost use Rattle.encode.specs.Pixels.{pixels_in};
 
-use crate::bytes::same_start;
+use crate::bytes::Compared;
 use crate::order::{Kind, MAX_RUN};
 use crate::pixels::{Pixels, Place};
 
@@ -27,7 +27,11 @@ impl Pixels<'_> {
         requires { (row ≤ k) × (k + n ≤ self.now.total) }
         ensures { result ≡ stretch (same_as_back (pixels_in self.now) row) k n }
     {
-        self.whole_pixels(same_start(self.bytes_of(k, n), self.bytes_of(k - row, n)))
+        let compared = Compared {
+            here: self.bytes_of(k, n),
+            back: self.bytes_of(k - row, n),
+        };
+        self.whole_pixels(compared.same_start())
     }
 }
 

@@ -45,7 +45,7 @@ alike c n o =
     (λ c. head_bytes (kind_row c) n ≡ written_as (c * 32) (written 1 32 (0xF0 + c)) n (shortest_in 32 (written 1 32 (0xF0 + c)) n))
     refl refl refl c o
 
-module _ (c n : ℕ) (o : EncodedKind c) where
+module _ {c : ℕ} (n : ℕ) (o : EncodedKind c) where
   pub head_short : n ≤ 31 → head_bytes (kind_row c) n ≡ (c * 32 + n) ∷ []
   unfolding written_as shortest_in
   head_short h =
@@ -96,8 +96,8 @@ by_head Q n none one two three = go (head_of_lem n)
 
 pub head-length : (c n : ℕ) → EncodedKind c → 1 ≤ n → length (head_bytes (kind_row c) n) ≡ head_size n
 head-length c n o one =
-    by_head (λ x. length (head_bytes (kind_row c) n) ≡ x) n (λ e. absurd (omega arith)) (λ a b. ap length (head_short c n o b))
-    (λ a b. ap length (head-one c n o a b)) (λ a. ap length (head_two c n o a))
+    by_head (λ x. length (head_bytes (kind_row c) n) ≡ x) n (λ e. absurd (omega arith)) (λ a b. ap length (head_short n o b))
+    (λ a b. ap length (head-one n o a b)) (λ a. ap length (head_two n o a))
 
 pub head-most : (n : ℕ) → head_size n ≤ 3
 head-most n = by_head (λ x. x ≤ 3) n (λ e. omega arith) (λ a b. omega arith) (λ a b. omega arith) (λ a. omega arith)

@@ -1,9 +1,9 @@
 // Pixels by masks, the lowest bit first: where the bit is 1 the color (the first d bytes of it), where it is 0 zeros; in the first row as
 // they are, later exclusive-or the bytes so many places back. Callers have the depth and the places as numbers, and every number is
-// allowed. Target, place, row and color go on one by one: a struct that has the target lent would be made for one call.
+// allowed; where the row above is there, `Masked` holds them.
 #![tactic(auto)]
 
-ghost use Rattle.std.specs.Prelude.{◌≡◌, ◌+◌, ◌*◌, ◌≤◌, leb, length};
+ghost use Rattle.std.specs.Prelude.{◌≡◌, true, ◌+◌, ◌*◌, ◌≤◌, leb, length};
 ghost use Rattle.byte_runs.specs.Runs.{Depth, Eight, run_where, both, there, pixels_there, row_there, mask_by, masked_by, row_bytes};
 
 use byte_runs::pixels_fit;
@@ -11,8 +11,32 @@ use byte_runs::pixels_fit;
 pub(crate) mod part;
 pub(crate) mod whole;
 
-use part::{narrow, part};
-use whole::whole;
+// Pixels of D bytes in a target: from `at` on, with the row above so many bytes back, none in the first row, and the color that a mask
+// gives them. The target is none of its fields: methods lend it on with the pixels behind.
+#[derive(Clone, Copy)]
+struct Masked<const D: usize> {
+    at: usize,
+    back: Option<usize>,
+    pixel: [u8; 3],
+    ghost depth: { Depth D },
+    ghost there: { row_there back at ≡ true },
+}
+
+impl<const D: usize> Masked<D> {
+    // Those from n bytes on.
+    #[inline(always)]
+    fn behind(self, n: usize) -> Self
+        requires { self.at + n ≤ 18446744073709551615 }
+        ensures { (result.at ≡ self.entry.at + n) × (result.back ≡ self.entry.back) × (result.pixel ≡ self.entry.pixel) }
+    {
+        let pixel = self.pixel;
+        Masked {
+            at: self.at + n,
+            back: self.back,
+            pixel,
+        }
+    }
+}
 
 // Whole masks for pixels of D bytes.
 fn masks_of<const D: usize, const N: usize>(
@@ -26,10 +50,10 @@ fn masks_of<const D: usize, const N: usize>(
     ensures { dst.new ≡ run_where (row_there back at) (row_bytes back at (masked_by masks.now 0 D pixel)) at (length masks.now * 8 * D) dst.old }
 {
     match back {
-        None => whole::<D, N>(masks, dst, at, None, pixel),
+        None => Masked::<D> { at, back, pixel }.whole::<N>(masks, dst),
         Some(row) if at < row => {}
-        Some(row) if row < N => narrow::<D>(masks, dst, at, Some(row), pixel),
-        Some(row) => whole::<D, N>(masks, dst, at, Some(row), pixel),
+        Some(row) if row < N => Masked::<D> { at, back, pixel }.narrow(masks, dst),
+        Some(_) => Masked::<D> { at, back, pixel }.whole::<N>(masks, dst),
     }
 }
 
@@ -46,9 +70,9 @@ fn part_of<const D: usize>(
     ensures { dst.new ≡ run_where (row_there back at) (row_bytes back at (mask_by mask D pixel)) at (n * D) dst.old }
 {
     match back {
-        None => part::<D>(mask, dst, at, None, n, pixel),
+        None => Masked::<D> { at, back, pixel }.part(mask, dst, n),
         Some(row) if at < row => {}
-        Some(row) => part::<D>(mask, dst, at, Some(row), n, pixel),
+        Some(_) => Masked::<D> { at, back, pixel }.part(mask, dst, n),
     }
 }
 

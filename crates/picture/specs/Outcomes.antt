@@ -1,5 +1,5 @@
 -- The numbers and values that the code's outcomes stand for.
-use Rattle.std.specs.Prelude.{◌≡◌, ℕ, Result, Ok, Err}
+use Rattle.std.specs.Prelude.{◌≡◌, ℕ, Option, None, Some, Result, Ok, Err}
 use Rattle.picture.specs.declared.outcome.RlePixelFormat.{RlePixelFormat}
 use Rattle.picture.specs.declared.outcome.RlePixelFormat.TheVariants.{Rgb24, Rgb16, Rgb15, Rgb8}
 use Rattle.picture.specs.declared.outcome.RleError.{RleError}
@@ -46,8 +46,13 @@ pub record Numbered (o : Outcome) (r : Numbers) : Type 0 where
   pub first : r.first ≡ (refusal_in o).first
   pub second : r.second ≡ (refusal_in o).second
 
+-- 0: no depth has it
+abbrev pub format_number : Option RlePixelFormat → ℕ
+format_number None = 0
+format_number (Some k) = format_of k
+
 abbrev pub depth_in : CodeDepth → Depth
-depth_in d = record { bytes = d.bytes; white = d.white; black = d.black; format = format_of d.format }
+depth_in d = record { bytes = d.bytes; white = d.white; black = d.black; format = format_number d.format }
 
 abbrev pub size_in : Result ℕ RleError → Size
 size_in (Ok n) = bytes n

@@ -2,8 +2,7 @@
 // inside the buffer and counts on past its end, so a run into a short buffer gives the text's length. A place can't wrap: the next
 // after the largest is the largest.
 //
-// What is printed is defined in specs/Text.antt and specs/Digits.antt, what each method promises in specs/Writes.antt. `write!` would
-// be no plainer: its digits are those of std's definition, and a reader would have that to believe too.
+// What is printed is defined in specs/Text.antt and specs/Digits.antt, what each method promises in specs/Writes.antt.
 #![tactic(auto)]
 
 ghost use Rattle.std.specs.Prelude.{◌≡◌, [], ◌∷◌, ◌<◌};
@@ -23,7 +22,7 @@ fn hex_digit(d: u8) -> u8
     requires { d < 16 }
     ensures { result ≡ hex_digit d }
 {
-    if d < 10 { b'0' + d } else { b'a' - 10 + d }
+    char::from_digit(u32::from(d), 16).unwrap() as u8
 }
 
 impl<'a> Output<'a> {
@@ -63,7 +62,8 @@ impl<'a> Output<'a> {
         }
     }
 
-    // The digits of n / 10, and then the last one.
+    // The digits of n / 10, and then the last one. By `write!(self, "{n}")` that they are printed does not prove: std says what is written
+    // where `write!` gives Ok, and nothing says that it does, though `write_str` always would.
     pub fn decimal(&mut self, n: usize)
         ensures { Prints self.old (decimal n) self.new }
     {

@@ -13,6 +13,7 @@ use std::alloc::{AllocError, Global};
 use std::fs::File;
 use std::io::{self, Read};
 
+// Depth and sizes, as a record has them.
 #[derive(Clone, Copy, Debug)]
 struct Picture {
     width: usize,

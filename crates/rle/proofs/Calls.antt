@@ -17,7 +17,7 @@ use Rattle.picture.specs.Pixels.{bytes_of}
 use Rattle.picture.specs.Sizes.{Frame, depth_of, Checked, refused, accepted, accept, checked, with_space, size_of}
 use Rattle.definition.specs.Decode.{State, then_run, decode, result_of, of_run, of_checked, result_in, Summary}
 use Rattle.definition.specs.Plan.{end_with}
-use Rattle.picture.specs.Outcomes.{refusal_of, format_of}
+use Rattle.picture.specs.Outcomes.{refusal_of}
 use Rattle.rle.specs.Report.{summary_in, Agrees, Decompresses}
 use Rattle.rle.specs.Planning.{CodeEnding}
 use Rattle.rle.specs.States.{frame_of, state_of, Framed}
@@ -54,7 +54,7 @@ module _ (src before : List ℕ) (bpp w h : ℕ) {e : RleError} where
   unfolding result_in with_space
   reports_refused s = refused-is src before (w * h) e (ap (λ (c : Checked). with_space (length before) c) (sym s))
 
-  pub reports_short : (f : CodeFrame) → accepted (frame_of f) (format_of f.depth.format) ≡ checked bpp w h
+  pub reports_short : (f : CodeFrame) {format : ℕ} → accepted (frame_of f) format ≡ checked bpp w h
       → length before < f.total * f.depth.bytes → e ≡ BufferTooShort (f.total * f.depth.bytes) (length before)
       → Decompresses src bpp w h before before (not_decoded e)
   unfolding result_in with_space
@@ -108,20 +108,20 @@ module _ (f : Frame) (k : ℕ) (src before after : List ℕ) (s : Stepped) (fram
         bounded = rw pixels bounded-is;
       })
 
-module _ (bpp w h : ℕ) (f : CodeFrame) (is : accepted (frame_of f) (format_of f.depth.format) ≡ checked bpp w h) where
+module _ (bpp w h : ℕ) (f : CodeFrame) {format : ℕ} (is : accepted (frame_of f) format ≡ checked bpp w h) where
   total-is : f.total ≡ w * h
   unfolding size_of accept
   total-is =
       let k = sized bpp w h (f.total * f.depth.bytes) (ap size_of is) in
-      let a : accepted (frame_of f) (format_of f.depth.format) ≡ accept (depth_of bpp) w h = is ∙ k.checks in
+      let a : accepted (frame_of f) format ≡ accept (depth_of bpp) w h = is ∙ k.checks in
       let g : frame_of f ≡ record { bytes = (depth_of bpp).bytes; white = (depth_of bpp).white; black = (depth_of bpp).black; width = w; total = w * h } = cc in
       ap (λ (x : Frame). x.total) g
 
   module _ (before : List ℕ) (space : f.total * f.depth.bytes ≤ length before) where
     pub reports_decoded : (src after : List ℕ) (s : Stepped) → length after ≡ length before → Bytes src
         → Decodes (frame_of f) src before after s
-        → (r : Report) → summary_in r ≡ summary_after s.ending (format_of f.depth.format) s.state.walk.pixels s.state.orders → Decompresses src bpp w h before after r
+        → (r : Report) → summary_in r ≡ summary_after s.ending format s.state.walk.pixels s.state.orders → Decompresses src bpp w h before after r
     unfolding result_in of_checked with_space
     reports_decoded src after s same octets decodes r reports =
         rw (← total-is, ← is, le-ltb (length before) (f.total * f.depth.bytes) space)
-        (reports_run _ (format_of f.depth.format) src before after s (framed f (length before) space) same octets decodes r reports)
+        (reports_run _ format src before after s (framed f (length before) space) same octets decodes r reports)

@@ -13,7 +13,7 @@ use Rattle.rle.specs.declared.frame.Frame.{Frame as CodeFrame}
 use Rattle.rle.specs.declared.walk.Walk.{Walk}
 use Rattle.rle.specs.declared.walk.Walked.{Walked}
 use Rattle.picture.specs.Sizes.{Frame, checked, accepted, refused}
-use Rattle.picture.specs.Outcomes.{refusal_of, format_of}
+use Rattle.picture.specs.Outcomes.{refusal_of}
 use Rattle.definition.specs.Decode.{start, decode, result_of, of_run, of_checked, result, summary_of}
 use Rattle.rle.specs.Report.{summary_in}
 use Rattle.rle.specs.Planning.{CodeEnding}
@@ -51,11 +51,11 @@ counts_stopped f c src (Ok None) w k few out r reports = counts-run (frame_of f)
 counts_stopped f c src (Err e) w k few out r reports = counts-run (frame_of f) c src f.total (Err e) w.pixels k out r reports
 counts_stopped f c src (Ok (Some x)) w k few reaches r reports = absurd (omega (arith, reaches.counted))
 
-pub counts_walked : (bpp w h : ℕ) (f : CodeFrame) → accepted (frame_of f) (format_of f.depth.format) ≡ checked bpp w h → (src : List ℕ) (x : Walked)
+pub counts_walked : (bpp w h : ℕ) (f : CodeFrame) {format : ℕ} → accepted (frame_of f) format ≡ checked bpp w h → (src : List ℕ) (x : Walked)
     → WalksOrders (frame_of f) src start_walk f.total x
-    → (r : Report) → summary_in r ≡ summary_after (ending_by x.stop) (format_of f.depth.format) x.walk.pixels x.orders
+    → (r : Report) → summary_in r ≡ summary_after (ending_by x.stop) format x.walk.pixels x.orders
     → summary_in r ≡ summary_of (result src bpp w h)
 unfolding result of_checked
-counts_walked bpp w h f is src x walks r reports =
+counts_walked bpp w h f {format} is src x walks r reports =
     rw (← is)
-    (counts_stopped f (format_of f.depth.format) src x.stop x.walk x.orders walks.within (walks.stops (start (frame_of f) src) (start-stands (frame_of f) src)) r reports)
+    (counts_stopped f format src x.stop x.walk x.orders walks.within (walks.stops (start (frame_of f) src) (start-stands (frame_of f) src)) r reports)

@@ -17,6 +17,7 @@ use Rattle.definition.specs.Records.{orders_from, nth}
 use Rattle.definition.proofs.Bounds.{Bytes, bytes_drop}
 use Rattle.definition.proofs.Records.{orders_without_room}
 use Rattle.rle.specs.declared.frame.Frame.{Frame as CodeFrame}
+use Rattle.picture.specs.declared.outcome.RlePixelFormat.{RlePixelFormat}
 use Rattle.rle.specs.declared.walk.Walk.{Walk}
 use Rattle.rle.specs.declared.walk.Walked.{Walked}
 use Rattle.rle.specs.States.{frame_of, checked_in}
@@ -52,19 +53,19 @@ reached_finds f src first n (Ok (Some r)) w k reaches = rw reaches.is (reaches.t
 
 -- what `ok` leaves of a frame or a refusal
 module _ (bpp w h : ℕ) where
-  pub frame_taken : (r : Result CodeFrame RleError) (f : CodeFrame) → Some f ≡ result_ok r → checked_in r ≡ checked bpp w h
-      → accepted (frame_of f) (format_of f.depth.format) ≡ checked bpp w h
-  frame_taken (Ok g) f e is =
-      let same : f ≡ g = cc in
+  pub frame_taken : (r : Result (CodeFrame × RlePixelFormat) RleError) (x : CodeFrame × RlePixelFormat) → Some x ≡ result_ok r → checked_in r ≡ checked bpp w h
+      → accepted (frame_of x.0) (format_of x.1) ≡ checked bpp w h
+  frame_taken (Ok y) x e is =
+      let same : x ≡ y = cc in
       rw same is
-  frame_taken (Err x) f e is = apart cc
+  frame_taken (Err y) x e is = apart cc
 
-  pub finds_refused : (src : List ℕ) (from : Walk) (n : ℕ) (r : Result CodeFrame RleError) → None ≡ result_ok r → checked_in r ≡ checked bpp w h
+  pub finds_refused : (src : List ℕ) (from : Walk) (n : ℕ) (r : Result (CodeFrame × RlePixelFormat) RleError) → None ≡ result_ok r → checked_in r ≡ checked bpp w h
       → FindsOrder src bpp w h from n None
   finds_refused src from n (Ok g) e is = apart cc
   finds_refused src from n (Err x) e is = rw (← is) refl
 
-module _ (bpp w h : ℕ) (f : CodeFrame) (is : accepted (frame_of f) (format_of f.depth.format) ≡ checked bpp w h) (src : List ℕ) (from : Walk) (n : ℕ) where
+module _ (bpp w h : ℕ) (f : CodeFrame) {format : ℕ} (is : accepted (frame_of f) format ≡ checked bpp w h) (src : List ℕ) (from : Walk) (n : ℕ) where
   pub finds_past : f.total < from.pixels → Bytes src → FindsOrder src bpp w h from n None
   unfolding nth
   finds_past past octets =

@@ -81,7 +81,7 @@ module _ (src : List ℕ) (a : ℕ) (inside : a ≤ length src) where
   unfolding mega_length with_bytes
   mega_short mega e (h, p) = record { is = rw (length-drop, p, lt-leb 1 (length src - a) h); stands = tt; fits = (le_refl a, inside) }
 
-  pub mega_read : (mega b : ℕ) → (1 ≤ length src - a) × (b ≡ get_or src a 0) → get_or src a 0 ≤ 255 → 1 ≤ mega → mega ≤ 32
+  pub mega_read : (mega b : ℕ) → (1 ≤ length src - a) × (b ≡ get_or src a 0) → b < 256 → 1 ≤ mega → mega ≤ 32
       → ReadsLength src a in_byte (Ok (record { pixels = b + mega; place = InByte; next = a + 1 })) (mega_length mega (drop a src))
   unfolding mega_length with_bytes
   mega_read mega b (h, g) k l m =
@@ -108,10 +108,10 @@ module _ (src : List ℕ) (a : ℕ) (inside : a ≤ length src) where
         fits = (omega arith, omega arith);
       }
 
-  pub long-is : (n : ℕ) → (2 ≤ length src - a) × (n ≡ get_or src a 0 + get_or src (a + 1) 0 * 256) → get_or src a 0 ≤ 255 → get_or src (a + 1) 0 ≤ 255 → (n ≡ 0 → ⊥)
+  pub long-is : (n : ℕ) → (2 ≤ length src - a) × (n ≡ get_or src a 0 + get_or src (a + 1) 0 * 256) → n < 65536 → (n ≡ 0 → ⊥)
       → ReadsLength src a in_two_bytes (Ok (record { pixels = n; place = InTwoBytes; next = a + 2 })) (mega_mega_length (drop a src))
   unfolding mega_mega_length with_bytes
-  long-is n (h, p) u v z =
+  long-is n (h, p) few z =
       let z' : get_or src a 0 + get_or src (a + 1) 0 * 256 ≡ 0 → ⊥ = rw (← p) z in
       record {
         is = simp (p, length-drop, le-leb 2 (length src - a) h, get_or-drop, add-zero, drop-drop, ne_eqb _ 0 z');

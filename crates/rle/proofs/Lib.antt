@@ -7,10 +7,8 @@ pub mod Heads
 pub mod Inks
 pub mod Orders
 pub mod Sharing
-pub mod Operands
 pub mod FirstRow
 pub mod Stream
-pub mod Carried
 pub mod Walks
 pub mod Calls
 pub mod Counting

@@ -1,6 +1,6 @@
 -- Laws of one order, and of the whole stream: an order is the definition's step, and from each state between orders the rest of the
 -- stream gives what the whole gives. Assumes nothing.
-use mathlib.Core.Path.{◌≡◌, refl, ap, sym, ◌∙◌, subst}
+use mathlib.Core.Path.{◌≡◌, refl, ap, sym, ◌∙◌}
 use mathlib.Core.List.{List}
 use Prim.Native.Nat.{ℕ, suc, ◌*◌, ◌≤◌, ◌<◌, zero-le}
 use native.Mathlib.Nat.{le_refl, lt_of_not-le}
@@ -21,7 +21,7 @@ use Rattle.definition.specs.Plan.{end_with}
 use Rattle.definition.proofs.Runs.{continues-start, continues_end, continues-refused, continues_on, continues_as}
 use Rattle.picture.specs.Pixels.{pixels_of}
 use Rattle.rle.specs.Heads.{HeadAt, RefusedAt}
-use Rattle.rle.specs.Planning.{CodeEnding, ending_in}
+use Rattle.rle.specs.Planning.{ending_in}
 use Rattle.rle.specs.States.{Framed, Invariant, frame_of, state_of, first_row_ended, at_pos, refused_in, start_of}
 use Rattle.rle.specs.Orders.{Executes, BetweenOrders, Decodes, decoded_to, DecodesTo}
 use Rattle.rle.proofs.Painting.{rest_later}
@@ -29,11 +29,18 @@ use Rattle.rle.proofs.FirstRow.{mark-is, invariant_marked, step_marked}
 
 -- ---- one order
 
-pub invariant_at : {f : Frame} {s : CodeState} (pos : ℕ) → Invariant f s → Invariant f (at_pos s pos)
+invariant_at : {f : Frame} {s : CodeState} (pos : ℕ) → Invariant f s → Invariant f (at_pos s pos)
 invariant_at pos invariant =
     record { within = invariant.within; row = invariant.row; foreground = invariant.foreground; counted = invariant.counted }
 
-module _ (f : CodeFrame) (src dst : List ℕ) (s : CodeState) (begun : first_row_ended f s ≡ s) where
+-- between two orders, in the state s, one more is carried out
+pub record Advances (f : Frame) (src dst₀ dst after : List ℕ) (s : CodeState) (r : Stepped) : Type 0 where
+  pub between : BetweenOrders f src dst₀ dst s
+  pub executes : Executes f src dst after s r (step f)
+  pub reads : s.walk.pos < r.state.walk.pos
+  pub inside : s.walk.pos < length src
+
+module _ (f : CodeFrame) (src dst : List ℕ) {s : CodeState} (begun : first_row_ended f s ≡ s) where
   -- an order begins with the first row's end, which is behind or not yet due
   step_from : (x : Head) → head_of (drop s.walk.pos src) ≡ x
       → order_from (frame_of f) (state_of (frame_of f) src dst s) x ≡ step (frame_of f) (state_of (frame_of f) src dst s)
@@ -44,41 +51,49 @@ module _ (f : CodeFrame) (src dst : List ℕ) (s : CodeState) (begun : first_row
       λ i. order_from (frame_of f) (from i) (sym e i)
 
   -- its head was read
-  pub order_executes : {o : OrderHead} → HeadAt src s.walk.pos o → (after : List ℕ) (r : Stepped)
-      → Executes (frame_of f) src dst after (at_pos s o.next) r (order_of (frame_of f) (kind_in o.kind) o.run_length.pixels)
-      → Executes (frame_of f) src dst after s r (step (frame_of f))
-  unfolding order_from with_left
-  order_executes at after r d =
-      record {
-        is = d.is ∙ step_from _ at.is;
-        rest = d.rest;
-        grows = d.grows;
-        reads = omega (arith, d.reads, at.reads);
-        place = d.place;
-        mark = d.mark;
-        invariant = d.invariant;
-      }
-
-  -- and the order reads on
-  pub order_read : {o : OrderHead} → HeadAt src s.walk.pos o → (after : List ℕ) (r : Stepped)
+  pub order_read : {o : OrderHead} → HeadAt src s.walk.pos o → {after : List ℕ} {r : Stepped}
       → Executes (frame_of f) src dst after (at_pos s o.next) r (order_of (frame_of f) (kind_in o.kind) o.run_length.pixels)
       → Executes (frame_of f) src dst after s r (step (frame_of f)) × (s.walk.pos < r.state.walk.pos) × (s.walk.pos < length src)
-  order_read at after r d = (order_executes at after r d, omega (arith, at.reads, d.reads), omega (arith, at.reads, at.place))
+  unfolding order_from with_left
+  order_read at d = (
+    record {
+      is = d.is ∙ step_from _ at.is;
+      rest = d.rest;
+      grows = d.grows;
+      reads = omega (arith, d.reads, at.reads);
+      place = d.place;
+      mark = d.mark;
+      invariant = d.invariant;
+    },
+    omega (arith, at.reads, d.reads),
+    omega (arith, at.reads, at.place),
+  )
 
-  -- its head was refused
-  pub order-refused : {x : NoLength} → RefusedAt src s.walk.pos x → Invariant (frame_of f) s
-      → Executes (frame_of f) src dst dst s (refused_in x.error (at_pos s x.next)) (step (frame_of f))
-  unfolding order_from with_left end_with
-  order-refused {x = x} at invariant =
-      record {
-        is = step_from _ at.is;
-        rest = refl;
-        grows = le_refl s.walk.pixels;
-        reads = omega (arith, at.reads);
-        place = at.place;
-        mark = refl;
-        invariant = invariant_at x.next invariant;
-      }
+  module _ {dst₀ : List ℕ} (between : BetweenOrders (frame_of f) src dst₀ dst s) where
+    pub advanced : {o : OrderHead} → HeadAt src s.walk.pos o → {after : List ℕ} {r : Stepped}
+        → Executes (frame_of f) src dst after (at_pos s o.next) r (order_of (frame_of f) (kind_in o.kind) o.run_length.pixels)
+        → Advances (frame_of f) src dst₀ dst after s r
+    advanced at d = let read = order_read at d in record { between = between; executes = read.0; reads = read.1; inside = read.2 }
+
+    -- its head was refused
+    pub order-refused : {x : NoLength} → RefusedAt src s.walk.pos x → Advances (frame_of f) src dst₀ dst dst s (refused_in x.error (at_pos s x.next))
+    unfolding order_from with_left end_with
+    order-refused {x = x} at =
+        record {
+          between = between;
+          executes =
+              record {
+                is = step_from _ at.is;
+                rest = refl;
+                grows = le_refl s.walk.pixels;
+                reads = omega (arith, at.reads);
+                place = at.place;
+                mark = refl;
+                invariant = invariant_at x.next between.invariant;
+              };
+          reads = at.reads;
+          inside = omega (arith, at.reads, at.place);
+        }
 
 -- ---- the whole stream
 
@@ -98,77 +113,70 @@ between_start f src dst =
       continues = continues-start (frame_of f) src;
     }
 
-pub between_end : (f : Frame) (src dst₀ dst : List ℕ) (r : Stepped) → BetweenOrders f src dst₀ dst r.state → r.ending ≡ Ok tt → length src ≤ r.state.walk.pos
+pub between_end : {f : Frame} {src dst₀ dst : List ℕ} {r : Stepped} → BetweenOrders f src dst₀ dst r.state → r.ending ≡ Ok tt → length src ≤ r.state.walk.pos
     → Decodes f src dst₀ dst r
 unfolding then_run end_with
-between_end f src dst₀ dst r between p h =
+between_end between p h =
     record {
-      is = rw p (continues_end between.continues (drop_of_length-le src h));
+      is = rw p (continues_end between.continues (drop_of_length-le _ h));
       rest = between.rest;
       invariant = between.invariant;
     }
 
-module _ (f : Frame) (src dst₀ dst : List ℕ) (s : CodeState) (between : BetweenOrders f src dst₀ dst s) where
-  -- the same, with the target as it is
-  pub between_here : BetweenOrders f src dst dst s
-  between_here = record { invariant = between.invariant; place = between.place; same = refl; rest = refl; continues = between.continues }
+more : (src : List ℕ) (pos : ℕ) → pos < length src → 0 < length (drop pos src)
+more src pos inside = rw length-drop (omega arith)
 
-  module _ (inside : s.walk.pos < length src) where
-    more : 0 < length (drop s.walk.pos src)
-    more = rw length-drop (omega arith)
+module _ {f : Frame} {src dst₀ dst after : List ℕ} {s : CodeState} {r : Stepped} (advances : Advances f src dst₀ dst after s r) where
+  abbrev executes : Executes f src dst after s r (step f)
+  executes = advances.executes
 
-    module _ (after : List ℕ) (r : Stepped) (executes : Executes f src dst after s r (step f)) where
-      rest : drop (r.state.walk.pixels * f.bytes) after ≡ drop (r.state.walk.pixels * f.bytes) dst₀
-      rest = executes.rest ∙ rest_later f.bytes s.walk.pixels r.state.walk.pixels dst dst₀ executes.grows between.rest
+  rest : drop (r.state.walk.pixels * f.bytes) after ≡ drop (r.state.walk.pixels * f.bytes) dst₀
+  rest = executes.rest ∙ rest_later f.bytes s.walk.pixels r.state.walk.pixels dst dst₀ executes.grows advances.between.rest
 
-      pub decodes_refused : (e : RleError) → r.ending ≡ Err e → Decodes f src dst₀ after r
-      decodes_refused e p =
-          record {
-            is = continues-refused between.continues more (ending_in r.ending) (state_of f src after r.state) executes.is (ap ending_in p);
-            rest = rest;
-            invariant = executes.invariant;
-          }
+  pub decodes_refused : {e : RleError} → r.ending ≡ Err e → Decodes f src dst₀ after r
+  decodes_refused p =
+      record {
+        is = continues-refused advances.between.continues (more src s.walk.pos advances.inside) (ending_in r.ending) (state_of f src after r.state) executes.is (ap ending_in p);
+        rest = rest;
+        invariant = executes.invariant;
+      }
 
-      pub between_refused : (limit : ℕ) (e : RleError) → r.ending ≡ Err e → decoded_to r.ending limit f src dst₀ after r
-      between_refused limit e p = subst (λ (a : CodeEnding). decoded_to a limit f src dst₀ after r) (sym p) (decodes_refused e p)
-
-      pub between_on : r.ending ≡ Ok tt → s.walk.pos < r.state.walk.pos → length after ≡ length dst → BetweenOrders f src dst₀ after r.state
-      between_on p h k =
-          record {
-            invariant = executes.invariant;
-            place = executes.place;
-            same = k ∙ between.same;
-            rest = rest;
-            continues =
-                continues_on between.continues more (ending_in r.ending) (state_of f src after r.state) executes.is (ap ending_in p)
-                (omega (arith, length-drop s.walk.pos src, length-drop r.state.walk.pos src, executes.place));
-          }
+  pub between_on : r.ending ≡ Ok tt → length after ≡ length dst → BetweenOrders f src dst₀ after r.state
+  between_on p k =
+      record {
+        invariant = executes.invariant;
+        place = executes.place;
+        same = k ∙ advances.between.same;
+        rest = rest;
+        continues =
+            continues_on advances.between.continues (more src s.walk.pos advances.inside) (ending_in r.ending) (state_of f src after r.state) executes.is (ap ending_in p)
+            (omega (arith, length-drop s.walk.pos src, length-drop r.state.walk.pos src, advances.reads, executes.place));
+      }
 
 -- the first row may end before an order
-pub between_marked : (f : CodeFrame) (src dst₀ dst : List ℕ) (s : CodeState) → BetweenOrders (frame_of f) src dst₀ dst s → s.walk.pos < length src
+pub between_marked : (f : CodeFrame) {src dst₀ dst : List ℕ} {s : CodeState} → BetweenOrders (frame_of f) src dst₀ dst s → s.walk.pos < length src
     → BetweenOrders (frame_of f) src dst₀ dst (first_row_ended f s)
-between_marked f src dst₀ dst s between inside =
+between_marked f {src} {dst₀} {dst} {s} between inside =
     record {
       invariant = invariant_marked f s between.invariant;
       place = between.place;
       same = between.same;
       rest = between.rest;
       continues =
-          continues_as between.continues (more (frame_of f) src dst₀ dst s between inside) (state_of (frame_of f) src dst (first_row_ended f s)) refl
-          (step_marked f s src dst);
+          continues_as between.continues (more src s.walk.pos inside) (state_of (frame_of f) src dst (first_row_ended f s)) refl (step_marked f s src dst);
     }
 
 -- orders to a limit, from a target that was painted before
-module _ (f : Frame) (src dst₀ dst : List ℕ) (s : CodeState) (between : BetweenOrders f src dst₀ dst s) (limit : ℕ) (after : List ℕ) (r : Stepped)
+module _ {f : Frame} {src dst₀ dst : List ℕ} {s : CodeState} (between : BetweenOrders f src dst₀ dst s) {limit : ℕ} {after : List ℕ} {r : Stepped}
     (to : DecodesTo limit f src dst after s r) where
   further : drop (r.state.walk.pixels * f.bytes) after ≡ drop (r.state.walk.pixels * f.bytes) dst
       → drop (r.state.walk.pixels * f.bytes) after ≡ drop (r.state.walk.pixels * f.bytes) dst₀
   further e = e ∙ rest_later f.bytes s.walk.pixels r.state.walk.pixels dst dst₀ to.grows between.rest
 
-  pub decoded-refused : (e : RleError) → r.ending ≡ Err e → Decodes f src dst₀ after r
-  decoded-refused e p =
-      let g : Decodes f src dst after r = subst (λ (a : CodeEnding). decoded_to a limit f src dst after r) p to.decoded in
-      record { is = g.is; rest = further g.rest; invariant = g.invariant }
+  pub decoded-refused : {e : RleError} → r.ending ≡ Err e → Decodes f src dst₀ after r
+  decoded-refused p =
+      let g = (rw p at to).decoded in
+      rw p (record { is = g.is; rest = further g.rest; invariant = g.invariant })
 
   pub decoded_on : r.ending ≡ Ok tt → BetweenOrders f src dst₀ after r.state × (r.state.walk.pos < length src → limit ≤ r.state.walk.pixels)
   decoded_on p =

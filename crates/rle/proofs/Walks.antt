@@ -71,54 +71,69 @@ pub record CompletesOrder (f : Frame) (src : List ℕ) (w v : Walk) : Type 0 whe
   pub some : w.pixels < v.pixels
   pub within : v.pixels ≤ f.total
 
-module _ (f : CodeFrame) (src : List ℕ) (w : Walk) (within : w.pixels ≤ f.total) where
-  -- its head was read
-  module _ {o : OrderHead} (at : HeadAt src w.pos o) (p : CodePlan)
-      (plans : counts_in p ≡ counts_of f.depth.bytes (kind_in o.kind) o.run_length.pixels (length src - o.next) (f.total - w.pixels)) where
-    pub enough : Within (length src - o.next) (f.total - w.pixels) (counts_in p)
-    enough = rw plans (kind-within f.depth.bytes (kind_in o.kind) o.run_length.pixels (length src - o.next) (f.total - w.pixels) o.run_length.some)
+-- the walk stands before an order of head o, and p is the plan of it in the room that the picture has left
+pub record PlannedAt (f : CodeFrame) (src : List ℕ) (w : Walk) (o : OrderHead) (p : CodePlan) : Type 0 where
+  pub within : w.pixels ≤ f.total
+  pub at : HeadAt src w.pos o
+  pub counts : counts_in p ≡ counts_of f.depth.bytes (kind_in o.kind) o.run_length.pixels (length src - o.next) (f.total - w.pixels)
 
-    pub order-refused : (e : RleError) → p.ending ≡ Err e → RefusesOrder (frame_of f) src w e (w.pixels + p.pixels)
-    unfolding plan_of plan_from plan_by past_first_row orders_after
-    order-refused e is =
-        record {
-          ending = λ k. rw (at.is, length-drop, ← plans) (ap ending_in (sym is));
-          painted = λ k. rw (at.is, length-drop, ← plans);
-          kept = λ k. rw (at.is, length-drop, ← plans, is);
-          more = omega (arith, at.reads, at.place);
-          within = omega (arith, enough.pixels);
-        }
+module _ {f : CodeFrame} {src : List ℕ} {w : Walk} {o : OrderHead} {p : CodePlan} (planned : PlannedAt f src w o p) where
+  abbrev at : HeadAt src w.pos o
+  at = planned.at
 
-    pub order-completed : p.ending ≡ Ok tt
-        → CompletesOrder (frame_of f) src w
-        (record { pos = o.next + p.read; pixels = w.pixels + p.pixels; insert = leaves_insert (kind_in o.kind); first_row = (row_ended f.width w).first_row })
-    unfolding plan_of plan_from plan_by past_first_row insert_after orders_after
-    order-completed is =
-        record {
-          ending = λ k. rw (at.is, length-drop, ← plans) (ap ending_in (sym is));
-          after = λ k. rw (at.is, length-drop, ← plans, is, drop-drop);
-          reads = omega (arith, at.reads);
-          place = omega (arith, enough.read, at.place);
-          some = omega (arith, enough.some (ap ending_in is));
-          within = omega (arith, enough.pixels);
-        }
+  enough : Within (length src - o.next) (f.total - w.pixels) (counts_in p)
+  enough = rw planned.counts (kind-within f.depth.bytes (kind_in o.kind) o.run_length.pixels (length src - o.next) (f.total - w.pixels) o.run_length.some)
 
-    -- its record is the plan's
-    pub record_walked : (k : ℕ) → record_in (record_at o (row_ended f.width w) p.pixels) ≡ plan_record (plan_of (frame_of f) (progress_in src k w))
-    unfolding plan_record plan_of plan_from plan_by past_first_row
-    record_walked k = rw (at.is, length-drop, ← plans, get_or-drop, add-zero, ← at.header, at.stands)
+  has_room : w.pixels + p.pixels ≤ f.total
+  has_room = omega (arith, enough.pixels, planned.within)
 
-  -- its head was refused
-  pub head-refused : {r : NoLength} → RefusedAt src w.pos r → RefusesOrder (frame_of f) src w r.error w.pixels
+  pub few_behind : w.pixels + p.pixels ≤ 67108864
+  few_behind = omega (arith, has_room, f.few)
+
+  pub place_behind : o.next + p.read ≤ length src
+  place_behind = omega (arith, enough.read, at.place)
+
+  pub order-refused : (e : RleError) → p.ending ≡ Err e → RefusesOrder (frame_of f) src w e (w.pixels + p.pixels)
   unfolding plan_of plan_from plan_by past_first_row orders_after
-  head-refused at =
+  order-refused e is =
       record {
-        ending = λ k. rw at.is;
-        painted = λ k. rw (at.is, add-zero);
-        kept = λ k. rw at.is;
+        ending = λ k. rw (at.is, length-drop, ← planned.counts) (ap ending_in (sym is));
+        painted = λ k. rw (at.is, length-drop, ← planned.counts);
+        kept = λ k. rw (at.is, length-drop, ← planned.counts, is);
         more = omega (arith, at.reads, at.place);
-        within = within;
+        within = has_room;
       }
+
+  pub order-completed : p.ending ≡ Ok tt
+      → CompletesOrder (frame_of f) src w
+      (record { pos = o.next + p.read; pixels = w.pixels + p.pixels; insert = leaves_insert (kind_in o.kind); first_row = (row_ended f.width w).first_row })
+  unfolding plan_of plan_from plan_by past_first_row insert_after orders_after
+  order-completed is =
+      record {
+        ending = λ k. rw (at.is, length-drop, ← planned.counts) (ap ending_in (sym is));
+        after = λ k. rw (at.is, length-drop, ← planned.counts, is, drop-drop);
+        reads = omega (arith, at.reads);
+        place = place_behind;
+        some = omega (arith, enough.some (ap ending_in is));
+        within = has_room;
+      }
+
+  -- its record is the plan's
+  pub record_walked : (k : ℕ) → record_in (record_at o (row_ended f.width w) p.pixels) ≡ plan_record (plan_of (frame_of f) (progress_in src k w))
+  unfolding plan_record plan_of plan_from plan_by past_first_row
+  record_walked k = rw (at.is, length-drop, ← planned.counts, get_or-drop, add-zero, ← at.header, at.stands)
+
+-- the head behind the walk is refused
+pub head-refused : {f : Frame} {src : List ℕ} {w : Walk} {r : NoLength} → w.pixels ≤ f.total → RefusedAt src w.pos r → RefusesOrder f src w r.error w.pixels
+unfolding plan_of plan_from plan_by past_first_row orders_after
+head-refused within at =
+    record {
+      ending = λ k. rw at.is;
+      painted = λ k. rw (at.is, add-zero);
+      kept = λ k. rw at.is;
+      more = omega (arith, at.reads, at.place);
+      within = within;
+    }
 
 -- ---- orders from a state on
 

@@ -7,14 +7,7 @@ use Rattle.definition.specs.Runs.{Continues}
 use Rattle.rle.specs.declared.state.State.{State as CodeState}
 use Rattle.rle.specs.declared.state.Stepped.{Stepped}
 use Rattle.rle.specs.Planning.{CodeEnding, ending_in}
-use Rattle.rle.specs.States.{state_of, Framed, Invariant}
-
--- an order of run length n may come in the state s, with a target of `given` bytes
-pub record Ready (given : ℕ) (f : Frame) (s : CodeState) (n : ℕ) : Type 0 where
-  pub frame : Framed given f
-  pub invariant : Invariant f s
-  pub some : 1 ≤ n
-  pub few : n ≤ 65536
+use Rattle.rle.specs.States.{state_of, Invariant}
 
 -- the definition's step that an ending and a state are
 abbrev pub step_in : CodeEnding → State → Step

@@ -12,6 +12,7 @@ use Rattle.rle.specs.declared.paint.Ink.{Ink as CodeInk}
 use Rattle.rle.specs.declared.paint.Ink.TheVariants.{Solid, Above, AboveXor}
 use Rattle.rle.specs.declared.span.Span.{Span}
 use Rattle.picture.specs.declared.outcome.RleError.{RleError}
+use Rattle.picture.specs.declared.outcome.RlePixelFormat.{RlePixelFormat}
 use Rattle.rle.specs.declared.plan.Plan.{Plan as CodePlan}
 use Rattle.rle.specs.declared.frame.Frame.{Frame as CodeFrame}
 use Rattle.rle.specs.declared.state.State.{State as CodeState}
@@ -29,8 +30,8 @@ frame_of f =
     }
 
 -- the definition's frame and format number, or its refusal
-abbrev pub checked_in : Result CodeFrame RleError → Checked
-checked_in (Ok f) = accepted (frame_of f) (format_of f.depth.format)
+abbrev pub checked_in : Result (CodeFrame × RlePixelFormat) RleError → Checked
+checked_in (Ok x) = accepted (frame_of x.0) (format_of x.1)
 checked_in (Err e) = refused (refusal_of e)
 
 -- the definition's state that the code's stands for, with the stream src and the target dst

@@ -20,7 +20,8 @@ pub(crate) trait Decoder {
         ensures { Decodes (frame_of f) src.now dst.old dst.new result };
 }
 
-// Decodes the stream of a picture by D into the first bytes of `dst`, or refuses depth, sizes or target.
+// Decodes the stream of a picture by D into the first bytes of `dst`, or refuses depth, sizes or target. Depth and sizes come one by one, as
+// to `decompress`.
 pub(crate) fn decompress_by<D: Decoder>(
     src: &[u8],
     dst: &mut [u8],
@@ -30,24 +31,19 @@ pub(crate) fn decompress_by<D: Decoder>(
 ) -> Result<Report, RleError>
     ensures { Decompresses src.now bpp width height dst.old dst.new (report_in result) }
 {
-    let f = Frame::new(width, height, bpp)?;
+    let (f, format) = Frame::new(width, height, bpp)?;
     let needed = f.total * f.depth.bytes;
     let given = dst.len();
     if given < needed {
         return Err(RleError::BufferTooShort { needed, given });
     }
     let r = D::decode(src, dst, f);
-    Ok(Report::new(
-        r.ending,
-        r.state.walk.pixels,
-        r.state.orders,
-        f.depth.format,
-    ))
+    Ok(Report::new(r.ending, r.state.walk.pixels, r.state.orders, format))
 }
 
 // Orders from the state s on until `limit` pixels are painted, or to the stream's end or its refusal. In the first row the limit is
-// its end, so that no order has to look for it. A loop, and no iterator over the orders as the encoder has: how far an order reaches in
-// the stream, its plan says, which needs the state before it.
+// its end, so that no order has to look for it. A loop, and no iterator over the orders as the encoder has: it changes a target that is lent,
+// and its answer is the state in which it ends.
 pub(crate) fn orders_to(
     src: &[u8],
     dst: &mut [u8],
@@ -104,6 +100,7 @@ impl Decoder for Fast {
                 return r;
             }
             s = t.end_first_row(f);
+            // No state has so many pixels. As an Option, the limit would be tested twice at each order.
             limit = f.total + 1;
         }
     }

@@ -5,7 +5,7 @@ ghost use Rattle.rle.specs.declared.kind.Kind.TheVariants.{White};
 
 use crate::kind::Kind;
 use crate::plan::Room;
-use picture::{Depth, RleError, depth_of, picture_size};
+use picture::{Depth, RleError, RlePixelFormat, depth_of, picture_size};
 
 // A picture's depth, its width, and its pixels: of a known depth, and no more than a picture may have.
 #[derive(Clone, Copy)]
@@ -26,17 +26,24 @@ impl Frame {
     ghost use Rattle.picture.specs.Sizes.{checked};
     ghost use Rattle.rle.specs.States.{checked_in};
 
-    // The frame of a picture, or the refusal of its depth or its sizes.
-    pub(crate) fn new(width: usize, height: usize, bpp: usize) -> Result<Self, RleError>
+    // The frame of a picture and its format, or the refusal of its depth or its sizes, which come one by one, as to `decompress`. The format is
+    // no field: orders, each of which has the frame, would take 2.5 % more instructions (geometric mean).
+    pub(crate) fn new(
+        width: usize,
+        height: usize,
+        bpp: usize,
+    ) -> Result<(Self, RlePixelFormat), RleError>
         ensures { checked_in result ≡ checked bpp width height }
     {
-        let depth = depth_of(bpp).ok_or(RleError::InvalidBpp { bpp })?;
+        let depth = depth_of(bpp);
+        let format = depth.format.ok_or(RleError::InvalidBpp { bpp })?;
         picture_size(width, height, bpp)?;
-        Ok(Frame {
+        let frame = Frame {
             depth,
             width,
             total: width * height,
-        })
+        };
+        Ok((frame, format))
     }
 
     // What the picture has left behind so many pixels.

@@ -1,11 +1,11 @@
 // An order's header byte: its kind and its own run length, each by one constant table.
-ghost use Rattle.std.specs.Prelude.{◌≡◌, ◌<◌};
+ghost use Rattle.std.specs.Prelude.{◌≡◌, MatchOption};
 ghost use Rattle.definition.specs.Codes as codes;
 ghost use Rattle.definition.specs.Codes.{kind_number, length_number};
 ghost use Rattle.rle.specs.Kinds.{number_of, numbers_in};
 
 use crate::kind::Kind;
-use base::widen;
+use crate::length::Length;
 
 // The kind of each header byte: a row for each upper half. Below F0 a row has one kind, and the lower half is a run length.
 const KINDS: [[Kind; 16]; 16] = [
@@ -76,18 +76,22 @@ impl Headers {
         }
     }
 
-    // A header is a usize, as `u8_from` reads it and a record has it.
-    pub(crate) fn kind(&self, header: usize) -> Kind
-        requires { header < 256 }
+    pub(crate) fn kind(&self, header: u8) -> Kind
         ensures { number_of result ≡ kind_number header }
     {
-        self.kinds[header / 16][header % 16]
+        let at = usize::from(header);
+        self.kinds[at / 16][at % 16]
     }
 
-    pub(crate) fn own_length(&self, header: usize) -> usize
-        requires { header < 256 }
-        ensures { result ≡ length_number header }
+    // The run length that a header has itself, if it has one.
+    pub(crate) fn own_length(&self, header: u8) -> Option<Length>
+        ensures { MatchOption result (length_number header ≡ 0) (λ l. l.pixels ≡ length_number header) }
     {
-        widen(self.lengths[header])
+        match self.lengths[usize::from(header)] {
+            0 => None,
+            pixels => Some(Length {
+                pixels: usize::from(pixels),
+            }),
+        }
     }
 }

@@ -1,4 +1,5 @@
-// Orders that paint images. Each plans the order, paints the pixels that the plan says, and ends as the plan says.
+// Orders that paint images. Each plans the order, paints the pixels that the plan says, and ends as the plan says. As in run.rt, a function
+// that one kind has for itself does not look at the order's kind.
 ghost use Rattle.std.specs.Prelude.{◌≡◌, ◌⊎◌};
 ghost use Rattle.definition.specs.Orders as orders;
 ghost use Rattle.rle.specs.Kinds.{kind_in};
@@ -6,7 +7,6 @@ ghost use Rattle.rle.specs.declared.kind.Kind.TheVariants.{FgBgImage, SetFgBgIma
 ghost use Rattle.rle.specs.Carrying.{HasPicture, CarriesOut};
 
 use crate::kind::Kind;
-use crate::length::Length;
 use crate::order::Order;
 use crate::state::Stepped;
 
@@ -35,7 +35,7 @@ impl<'a> Order<'a> {
         ensures { CarriesOut self.entry (kind_in self.entry.kind) dst.old dst.new result }
     {
         let s = self.state;
-        let p = self.frame.room(s.walk.pixels).run(Length { pixels: 8 });
+        let p = self.frame.room(s.walk.pixels).run(self.run_length);
         let masks = [self.kind.special_mask()];
         s.span(self.frame, p.pixels)
             .paint_whole_masks(&masks, 0, dst, s.fg_ink());

@@ -21,6 +21,7 @@ pub(crate) mod paint;
 pub(crate) mod pixel;
 pub mod plain;
 pub(crate) mod plan;
+pub(crate) mod reader;
 pub mod record;
 pub mod report;
 pub(crate) mod run;
@@ -63,7 +64,7 @@ pub fn nth_order(
 ) -> Option<Found>
     ensures { FindsOrder src.now bpp width height from n result }
 {
-    let f = Frame::new(width, height, bpp).ok()?;
+    let (f, _) = Frame::new(width, height, bpp).ok()?;
     if f.total < from.pixels {
         return None;
     }

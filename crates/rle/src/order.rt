@@ -10,7 +10,8 @@ use crate::pixel::read_pixel;
 use crate::state::{State, Stepped};
 
 // An order that comes next: the stream, its picture's frame, the state in which it comes, with the place behind its run length, its
-// kind, and that.
+// kind, and that. The target is none of its fields, with which it could not be copied: methods that paint ask for the picture's place
+// there (`HasPicture`).
 #[derive(Clone, Copy)]
 pub(crate) struct Order<'a> {
     pub(crate) src: &'a [u8],

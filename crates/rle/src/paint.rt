@@ -3,14 +3,17 @@
 // Background and foreground runs and fg/bg images are painted also where they are of no pixels, since a plan that refuses its order asks
 // for none. The other orders end before they paint then.
 //
+// The run writers promise what they do at each place of a target. They are lent the part that they read and write here, so the place is
+// 0, or the row's distance.
+//
 // Painters that take a span are put where they are called: as calls, which hand the span over in memory, a foreground run of one pixel
-// takes 103 instructions, and so 54.
+// takes some 50 instructions more.
 ghost use Rattle.std.specs.Prelude.{◌≡◌, ◌+◌, ◌-◌, ◌*◌, ◌/◌, ◌%◌, ◌≤◌, ◌<◌, IfSome, true, length, drop};
 ghost use Rattle.picture.specs.Pixels.{pixel_at, OfDepth};
 ghost use Rattle.definition.specs.Decode as decode;
 ghost use Rattle.definition.specs.Plan.{image_ink};
 ghost use Rattle.rle.specs.Painting.{HasPlace, HasAbove, Paintable, HasColor, PaintedOne, Paints, ink_of, zero_ink, insert_inks, back_and_color};
-ghost use Rattle.byte_runs.specs.Runs.{run, xored, turn, row_there, row_bytes, masked_by};
+ghost use Rattle.byte_runs.specs.Runs.{Depth, run, xored, turn, row_there, row_bytes, masked_by};
 
 use crate::pixel::{read_pixel, write_pixel, xor};
 use crate::span::Span;
@@ -20,6 +23,10 @@ use mask::{mask_part, masks};
 use xor::xor_back;
 
 // What a pixel is painted with: a color, the pixel above, or the pixel above exclusive-or a color.
+//
+// Span and ink stay two values, and painters ask that they fit (`Paintable`): a background run has two inks for one span, and so has an
+// image of the plain painters. So it is with a color alone (`OfDepth`): a dithered run has two. Masks choose between an ink and the same
+// without its color, so they ask for one (`HasColor`).
 #[derive(Clone, Copy)]
 pub(crate) enum Ink {
     Solid([u8; 3]),
@@ -31,7 +38,7 @@ pub(crate) enum Ink {
 // take 1968 instructions, and so 1019. It takes numbers, as a call that hands the span over takes 4 to 10 more.
 #[inline(never)]
 pub(crate) fn xor_rows(dst: &mut [u8], d: usize, at: usize, n: usize, row: usize, p: [u8; 3])
-    requires { (1 ≤ d) × (d ≤ 3) × (row ≤ at) × (at + n * d ≤ length dst.old) }
+    requires { Depth d × (row ≤ at) × (at + n * d ≤ length dst.old) }
     ensures { dst.new ≡ run (xored at row (turn p d)) at (n * d) dst.old }
 {
     let from = at - row;
@@ -39,9 +46,9 @@ pub(crate) fn xor_rows(dst: &mut [u8], d: usize, at: usize, n: usize, row: usize
     xor_back(&mut dst[from..end], d, row, n, row, p);
 }
 
-// 8 * m pixels of d bytes from dst[at] on, by the masks from src[from] on, in the first row where `back` is none. It stays a call, since it
-// has two callers, and takes numbers: as a call that hands span and ink over, 16 pixels of one byte take 228 instructions, and so 205.
-// The place of the masks goes with src: where each caller hands a slice on, color images of few pixels take 76 instructions, and so 74.
+// 8 * m pixels of d bytes from dst[at] on, by the masks from src[from] on, in the first row where `back` is none. It stays a call, since its
+// caller is put in two places, and takes numbers: as a call that hands span and ink over, 16 pixels of one byte take 23 instructions more.
+// The place of the masks goes with src: where a slice is handed on, the registers that it takes cost color images of few pixels 2.
 #[inline(never)]
 pub(crate) fn mask_rows(
     src: &[u8],
@@ -53,7 +60,7 @@ pub(crate) fn mask_rows(
     back: Option<usize>,
     p: [u8; 3],
 )
-    requires depth { (1 ≤ d) × (d ≤ 3) }
+    requires depth { Depth d }
     requires fits { (from + m ≤ length src.now) × (at + m * 8 * d ≤ length dst.old) }
     requires back { row_there back at ≡ true }
     ensures { dst.new ≡ run (row_bytes back at (masked_by src.now from d p)) at (m * 8 * d) dst.old }

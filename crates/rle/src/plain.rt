@@ -14,7 +14,8 @@ use crate::decode::decompress_by;
 use crate::plain::decode::Plain;
 use crate::report::Report;
 
-// Decodes the stream `src` of a picture into the first bytes of `dst`, of which the bytes after the painted pixels stay.
+// Decodes the stream `src` of a picture into the first bytes of `dst`, of which the bytes after the painted pixels stay. Depth and sizes
+// come one by one, as to the other decoder.
 pub fn decompress(src: &[u8], dst: &mut [u8], width: usize, height: usize, bpp: usize) -> Report
     ensures { Decompresses src.now bpp width height dst.old dst.new result }
 {

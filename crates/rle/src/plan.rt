@@ -2,7 +2,12 @@
 // says, and refuses nothing more.
 //
 // n: the run length, left: bytes of the stream behind it, read: bytes of operands in front of pixels or masks. n and left stay two numbers:
-// a dithered run hands on another n, an image behind its foreground another left.
+// a dithered run hands on another n, an image behind its foreground another left. The functions ask for bounds of n and read: n is up to twice
+// what a `Length` holds, and a type of its own for either would be taken apart at each sum, product and test, and nothing else is done with
+// them.
+//
+// The decoder tells the kinds apart itself, and plans each by its own function: if it planned by `order`, as the walk does, that would be a
+// call in both, its plan would go through memory at every order, and the walk would take half as many instructions again.
 ghost use Rattle.std.specs.Prelude.{◌≡◌, ◌⊎◌, false, ◌+◌, ◌*◌, ◌≤◌, ◌<◌, min, leb, Ok};
 ghost use Rattle.picture.specs.Sizes.{refusal};
 ghost use Rattle.definition.specs.Plan as plan;
@@ -169,6 +174,7 @@ impl Room {
         requires { read ≤ 3 }
         ensures { counts_in result ≡ plan.behind read (plan.image_counts self.bytes n.pixels left self.pixels) }
     {
+        // As in `masks_for`; `div_ceil` is defined by a remainder, which the proofs would have to take away again.
         let masks = (n.pixels + 7) / 8;
         if n.pixels <= self.pixels && masks <= left {
             return Plan::complete(read + masks, n.pixels);
@@ -199,7 +205,7 @@ impl Room {
         }
     }
 
-    // An order of this kind and run length.
+    // Plans an order of this kind and run length.
     pub(crate) fn order(self, kind: Kind, n: Length, left: usize) -> Plan
         ensures { counts_in result ≡ plan.counts_of self.bytes (kind_in kind) n.pixels left self.pixels }
     {

@@ -6,7 +6,8 @@ use crate::head::OrderHead;
 use crate::kind::Kind;
 use crate::walk::Walk;
 
-// Where an order's run length stands: nowhere (its kind has just one), in the header, in the byte after it, or in two.
+// Where an order's run length stands: nowhere (its kind has just one), in the header, in the byte after it, or in two. Nowhere is a case, as
+// its number is one of four that C is told.
 #[derive(Clone, Copy, Debug, PartialEq, Eq)]
 pub enum Place {
     Nowhere,
@@ -35,7 +36,7 @@ impl OrderRecord {
         ensures { result ≡ record_at o begun pixels }
     {
         OrderRecord {
-            header: o.header,
+            header: usize::from(o.header),
             place: o.place,
             kind: o.kind,
             run_length: o.run_length.pixels,

@@ -20,7 +20,8 @@ pub(crate) struct State {
     pub(crate) orders: usize,
 }
 
-// How an order, or a whole stream, ends, and in which state: a refusal has one too, with the pixels that were painted by then.
+// How an order, or a whole stream, ends, and in which state: a refusal has one too, with the pixels that were painted by then. As a Result
+// of states, it would be taken apart for the report, and put together anew where a plan's ending is handed on.
 #[derive(Clone, Copy)]
 pub(crate) struct Stepped {
     pub(crate) ending: Result<(), RleError>,

@@ -97,7 +97,8 @@ impl Walked {
 }
 
 // Orders from `from` on until number n of them, counted from 0, is completed, or to the stream's end or its refusal.
-// A loop, and no iterator, since how far an order reaches in the stream, its plan says, which needs the walk before it.
+// A loop, and no iterator: the answer is where the walk stands as it stops, at a refusal too, and `nth` and `count` of an iterator give an
+// item or a number.
 pub(crate) fn walk_orders(src: &[u8], f: Frame, from: Walk, n: usize) -> Walked
     requires { from.pixels ≤ f.total }
     ensures { WalksOrders (frame_of f) src.now from n result }
@@ -133,7 +134,8 @@ pub(crate) fn walk_orders(src: &[u8], f: Frame, from: Walk, n: usize) -> Walked
     }
 }
 
-// The report of the stream of a picture, without a target, or the refusal of its depth or its sizes.
+// The report of the stream of a picture, without a target, or the refusal of its depth or its sizes. These come one by one, as to
+// `decompress`.
 pub(crate) fn count_in(
     src: &[u8],
     width: usize,
@@ -142,9 +144,9 @@ pub(crate) fn count_in(
 ) -> Result<Report, RleError>
     ensures { summary_in (report_in result) ≡ summary_of (decode.result src.now bpp width height) }
 {
-    let f = Frame::new(width, height, bpp)?;
+    let (f, format) = Frame::new(width, height, bpp)?;
     // No picture completes more orders than it has pixels.
     let r = walk_orders(src, f, Walk::start(), f.total);
     let ending = r.stop.map(|_| ());
-    Ok(Report::new(ending, r.walk.pixels, r.orders, f.depth.format))
+    Ok(Report::new(ending, r.walk.pixels, r.orders, format))
 }

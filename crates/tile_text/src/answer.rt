@@ -9,7 +9,8 @@ use crate::refusal::Refusal;
 // The most bytes of a picture that is decoded.
 pub const PICTURE_LIMIT: usize = 65536;
 
-// Space for every answer: two digits for each painted byte, and 256 bytes for the rest.
+// Space for every answer: two digits for each painted byte, and 256 bytes for the rest. The program lends arrays of both lengths, as it has
+// no heap.
 pub const ANSWER_SPACE: usize = 2 * PICTURE_LIMIT + 256;
 
 // That it is no tile text comes before the decoder's refusals of a picture, and these before too large.

@@ -4,10 +4,9 @@ ghost use Rattle.tile_text.specs.Parse as parse;
 
 use crate::stream::StreamBytes;
 
-// The line being read; or the text is read whole, or it is no tile text.
-#[derive(Clone, Copy, Debug, Default, PartialEq, Eq)]
+// The line being read; or the text is read whole, or it is no tile text. That is a case too, since it stays so whatever bytes come.
+#[derive(Clone, Copy, Debug, PartialEq, Eq)]
 pub enum Line {
-    #[default]
     Width,
     Height,
     Bpp,
@@ -33,7 +32,7 @@ impl Line {
 }
 
 // The line, and the place in its key; after a number's key the value of the digits that are read. Then the numbers of the lines that
-// are read, and the stream's bytes.
+// are read, one by one as they come, and the stream's bytes.
 #[derive(Clone, Copy, Debug, PartialEq, Eq)]
 pub struct Parser {
     pub line: Line,
@@ -160,6 +159,7 @@ impl Parser {
             if b != key {
                 return None;
             }
+            // Kept from byte to byte: a chunk may end inside a key.
             self.place += 1;
             return Some(());
         }
@@ -187,14 +187,5 @@ impl Parser {
         for &b in chunk {
             self.step(b);
         }
-    }
-}
-
-// By hand: the derived one has no contract, and an array of 8,192 bytes has no Default.
-impl Default for Parser {
-    ghost is_default = { λ p. p ≡ parse.start (replicate 8192 0) };
-
-    fn default() -> Parser {
-        Parser::new()
     }
 }

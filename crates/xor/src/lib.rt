@@ -1,6 +1,5 @@
 // Pixels exclusive-or the pixels a row back: long runs by blocks of 48 bytes, which hold whole pixels of one, two and three bytes.
-// Callers have the depth and the places as numbers, and every number is allowed: a struct of them with the target lent would be made for
-// one call.
+// Callers have the depth and the places as numbers, and every number is allowed; where the row above is there, `Xored` holds them.
 #![tactic(auto)]
 
 ghost use Rattle.std.specs.Prelude.{◌≡◌, ℕ, ◌+◌, ◌*◌, ◌%◌, ◌≤◌, ◌<◌, leb, length, get_or};
@@ -23,51 +22,79 @@ fn xor_block(dst: &mut [u8], to: usize, from: usize, w: &[u8; 48])
     dst[to..to + 48].copy_from_slice(&t);
 }
 
-// By blocks, the last one overlapping.
-fn xor_blocks<const D: usize>(dst: &mut [u8], at: usize, len: usize, row: usize, pixel: [u8; 3])
-    requires in_bounds { (at + len ≤ length dst.old) × (row ≤ at) × (48 ≤ row) × (48 ≤ len) }
-    requires whole_pixels { Depth D × (len % D ≡ 0) }
-    ensures { dst.new ≡ run (xored at row (turn pixel D)) at len dst.old }
-{
-    let t = pattern::<D, 48>(pixel);
-    let last = len - 48;
-    for i in (0..len).step_by(48) {
-        let at = at + i.min(last);
-        xor_block(dst, at, at - row, &t);
-    }
+// Pixels of D bytes in a target: from `at` on, each the one `row` bytes back exclusive-or `pixel`. The target is none of its fields:
+// methods lend it on with the pixels behind. `mask` has a struct of its own, since pixels of the first row have no row above.
+#[derive(Clone, Copy)]
+struct Xored<const D: usize> {
+    at: usize,
+    row: usize,
+    pixel: [u8; 3],
+    ghost depth: { Depth D },
+    ghost there: { row ≤ at },
 }
 
-// One pixel, by an index, since a byte may be read that was just written: the row may be shorter than a pixel.
-fn xor_pixel<const D: usize>(dst: &mut [u8], at: usize, row: usize, pixel: [u8; 3])
-    requires { (D ≤ 3) × (at + D ≤ length dst.old) × (row ≤ at) }
-    ensures { dst.new ≡ run (xored at row (each pixel)) at D dst.old }
-{
-    for j in 0..D {
-        dst[at + j] = dst[at - row + j] ^ pixel[j];
+impl<const D: usize> Xored<D> {
+    // Those from n bytes on.
+    #[inline(always)]
+    fn behind(self, n: usize) -> Self
+        requires { self.at + n ≤ 18446744073709551615 }
+        ensures { (result.at ≡ self.entry.at + n) × (result.row ≡ self.entry.row) × (result.pixel ≡ self.entry.pixel) }
+    {
+        let pixel = self.pixel;
+        Xored {
+            at: self.at + n,
+            row: self.row,
+            pixel,
+        }
     }
-}
 
-// Pixels one by one.
-fn xor_few<const D: usize>(dst: &mut [u8], at: usize, n: usize, row: usize, pixel: [u8; 3])
-    requires { Depth D × (at + n * D ≤ length dst.old) × (row ≤ at) }
-    ensures { dst.new ≡ run (xored at row (turn pixel D)) at (n * D) dst.old }
-{
-    for i in 0..n {
-        xor_pixel::<D>(dst, at + i * D, row, pixel);
+    // By blocks, the last one overlapping: by an index, since each reads the row above in the slice that it writes.
+    fn xor_blocks(self, dst: &mut [u8], len: usize)
+        requires in_bounds { (self.at + len ≤ length dst.old) × (48 ≤ self.row) × (48 ≤ len) }
+        requires whole_pixels { len % D ≡ 0 }
+        ensures { dst.new ≡ run (xored self.entry.at self.entry.row (turn self.entry.pixel D)) self.entry.at len dst.old }
+    {
+        let t = pattern::<D, 48>(self.pixel);
+        let last = len - 48;
+        for i in (0..len).step_by(48) {
+            let at = self.at + i.min(last);
+            xor_block(dst, at, at - self.row, &t);
+        }
     }
-}
 
-// By blocks where the run and the row hold one; pixels of one byte the compiler takes many at a time by itself.
-fn xor_run<const D: usize>(dst: &mut [u8], at: usize, n: usize, row: usize, pixel: [u8; 3])
-    requires { Depth D × (at + n * D ≤ length dst.old) × (row ≤ at) }
-    ensures { dst.new ≡ run (xored at row (turn pixel D)) at (n * D) dst.old }
-{
-    let len = n * D;
-    if D == 1 || len < 48 || row < 48 {
-        xor_few::<D>(dst, at, n, row, pixel);
-        return;
+    // One pixel, by an index, since a byte may be read that was just written: the row may be shorter than a pixel. `mask` has one of its own
+    // (`put_bit`): a public function has no `requires`, so that one for both would test its places at each pixel.
+    fn xor_pixel(self, dst: &mut [u8])
+        requires { self.at + D ≤ length dst.old }
+        ensures { dst.new ≡ run (xored self.entry.at self.entry.row (each self.entry.pixel)) self.entry.at D dst.old }
+    {
+        for j in 0..D {
+            dst[self.at + j] = dst[self.at - self.row + j] ^ self.pixel[j];
+        }
     }
-    xor_blocks::<D>(dst, at, len, row, pixel);
+
+    // Pixels one by one, by an index, as the blocks.
+    fn xor_few(self, dst: &mut [u8], n: usize)
+        requires { self.at + n * D ≤ length dst.old }
+        ensures { dst.new ≡ run (xored self.entry.at self.entry.row (turn self.entry.pixel D)) self.entry.at (n * D) dst.old }
+    {
+        for i in 0..n {
+            self.behind(i * D).xor_pixel(dst);
+        }
+    }
+
+    // By blocks where the run and the row hold one; pixels of one byte the compiler takes many at a time by itself.
+    fn xor_run(self, dst: &mut [u8], n: usize)
+        requires { self.at + n * D ≤ length dst.old }
+        ensures { dst.new ≡ run (xored self.entry.at self.entry.row (turn self.entry.pixel D)) self.entry.at (n * D) dst.old }
+    {
+        let len = n * D;
+        if D == 1 || len < 48 || self.row < 48 {
+            self.xor_few(dst, n);
+            return;
+        }
+        self.xor_blocks(dst, len);
+    }
 }
 
 // n pixels of d bytes from dst[at] on, each the one `row` bytes back exclusive-or the pixel (its first d bytes); nothing where d is no
@@ -79,8 +106,8 @@ pub fn xor_back(dst: &mut [u8], d: usize, at: usize, n: usize, row: usize, pixel
         return;
     }
     match d {
-        1 => xor_run::<1>(dst, at, n, row, pixel),
-        2 => xor_run::<2>(dst, at, n, row, pixel),
-        _ => xor_run::<3>(dst, at, n, row, pixel),
+        1 => Xored::<1> { at, row, pixel }.xor_run(dst, n),
+        2 => Xored::<2> { at, row, pixel }.xor_run(dst, n),
+        _ => Xored::<3> { at, row, pixel }.xor_run(dst, n),
     }
 }

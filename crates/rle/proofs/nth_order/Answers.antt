@@ -11,12 +11,12 @@ returns-in_err-f c =
 pub returns-then-f-from : goal.returns-then-f-from
 returns-then-f-from c =
     let a = c.args in
-    let is = frame_taken a.bpp a.width a.height c.new.result c.in_ok-f.f c.in_ok-f.ensures.value c.new.ensures in
+    let is = frame_taken a.bpp a.width a.height c.new.result _ c.in_ok-f.ensures.value c.new.ensures in
     finds_past a.bpp a.width a.height c.in_ok-f.f is a.src.now a.from a.n c.if-f-from.true (λ i. omega (arith, c.type_inv.src i))
 
 pub returns : goal.returns
 returns c =
     let a = c.args in
-    let is = frame_taken a.bpp a.width a.height c.new.result c.in_ok-f.f c.in_ok-f.ensures.value c.new.ensures in
+    let is = frame_taken a.bpp a.width a.height c.new.result _ c.in_ok-f.ensures.value c.new.ensures in
     rw c.found.ensures
     (finds_walked a.bpp a.width a.height c.in_ok-f.f is a.src.now a.from a.n c.walk_orders.result c.walk_orders.ensures)

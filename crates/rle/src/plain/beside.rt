@@ -1,5 +1,5 @@
 // Each run writer beside its plain loop, on two targets: that they leave the same bytes, as the contract of two calls. Nothing calls
-// these functions; the prover holds them.
+// these functions; the prover holds them. What they ask is what both painters ask.
 ghost use Rattle.std.specs.Prelude.{◌≡◌, ◌+◌, ◌-◌, ◌*◌, ◌%◌, ◌≤◌, IfSome, length};
 ghost use Rattle.picture.specs.Pixels.{OfDepth};
 ghost use Rattle.rle.specs.Painting.{HasPlace, Paintable, HasColor, ink_of, zero_ink};

@@ -26,10 +26,10 @@ pub(crate) fn order_foreground(o: Order<'_>) -> [u8; 3]
     let d = o.frame.depth.bytes;
     let pos = o.state.walk.pos;
     if o.kind.sets_foreground() && d <= o.src.len() - pos {
-        return read_pixel(o.src, d, pos);
+        read_pixel(o.src, d, pos)
+    } else {
+        o.state.foreground
     }
-    let before = o.state.foreground;
-    before
 }
 
 // The inks of the foreground and the background: in the first row colors, later by the pixel above.
@@ -39,9 +39,10 @@ pub(crate) fn row_inks(f: Frame, s: State) -> (Ink, Ink)
     let foreground = s.foreground;
     let black = f.depth.black;
     if s.walk.first_row {
-        return (Ink::Solid(foreground), Ink::Solid(black));
+        (Ink::Solid(foreground), Ink::Solid(black))
+    } else {
+        (Ink::AboveXor(foreground), Ink::Above)
     }
-    (Ink::AboveXor(foreground), Ink::Above)
 }
 
 // The order's n pixels, in the state with its foreground.
@@ -88,7 +89,7 @@ pub(crate) fn paint_order(dst: &mut [u8], o: Order<'_>, n: usize)
     }
 }
 
-// An order.
+// Carries an order out.
 pub(crate) fn order(dst: &mut [u8], o: Order<'_>) -> Stepped
     requires { HasPicture o dst.old }
     ensures { CarriesOut o.entry (kind_in o.entry.kind) dst.old dst.new result }

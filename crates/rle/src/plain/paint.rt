@@ -71,10 +71,7 @@ pub(crate) fn paint_masks(src: &[u8], from: usize, dst: &mut [u8], span: Span, f
 pub(crate) fn dither_pixel(a: [u8; 3], b: [u8; 3], i: usize) -> [u8; 3]
     ensures { result ≡ pick (eqb (i % 2) 0) a b }
 {
-    if i % 2 == 0 {
-        return a;
-    }
-    b
+    if i % 2 == 0 { a } else { b }
 }
 
 // a and b by turns.

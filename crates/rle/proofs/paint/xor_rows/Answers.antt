@@ -6,4 +6,4 @@ pub returns : goal.returns
 returns c =
     let a = c.args in
     let r = c.requires in
-    part_mixed a.at a.row a.dst.now _ a.d a.n r.0 r.1 r.2 r.3 a.p c.xor_back.ensures
+    part_mixed a.at a.row a.dst.now _ a.d a.n r.0.0 r.0.1 r.1 r.2 a.p c.xor_back.ensures

@@ -13,7 +13,7 @@ returns-then-d-eq2 c =
     let a = c.args in
     first_pixel_2 a.s.now a.at a.d c.if-d-eq2.true
 
-pub returns : goal.returns
-returns c =
+pub returns-else-d-eq2 : goal.returns-else-d-eq2
+returns-else-d-eq2 c =
     let a = c.args in
     first_pixel_3 a.s.now a.at a.d (omega arith)

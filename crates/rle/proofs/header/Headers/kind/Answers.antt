@@ -5,4 +5,4 @@ use Rattle.rle.proofs.header.Headers.kind.Goals as goal
 
 pub returns : goal.returns
 unfolding kinds
-returns c = same_tables 0 _ kind_number 256 c.args.self.now.kinds_listed c.args.header c.requires
+returns c = rw (c.from-at.ensures) (same_tables 0 _ kind_number 256 c.args.self.now.kinds_listed c.args.header c.ranges.header.fits)

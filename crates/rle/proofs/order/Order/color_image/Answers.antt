@@ -2,44 +2,37 @@
 use mathlib.Core.Path.{refl}
 use native.Mathlib.Omega.{arith}
 use Rattle.std.proofs.lemmas.List.{take_rest}
-use Rattle.definition.specs.Orders.{ColorImage}
-use Rattle.definition.specs.Plan.{counts_of, kind_ink, leaves, insert_in, foreground_in}
+use Rattle.definition.specs.Plan.{counts_of, kind_ink}
+use Rattle.rle.specs.declared.kind.Kind.TheVariants.{ColorImage}
 use Rattle.rle.proofs.Painting.{painted-zero}
-use Rattle.rle.proofs.Carried.{ready}
-use Rattle.rle.proofs.Orders.{fits, image-operands, executes_finished, few_behind, has_place, next-painted}
+use Rattle.rle.proofs.Orders.{Planned, planned, fits, few_behind, has_place, has_operands, next-painted, executes_kept}
+use Rattle.rle.proofs.order.Order.color_image.Goals.{After-color_image-p}
 use Rattle.rle.proofs.order.Order.color_image.Goals as goal
 
-pub finished-requires : goal.finished-requires
+plan : (c : After-color_image-p) → Planned c.args.self ColorImage c.args.dst.now c.color_image-p.result
 unfolding counts_of
-finished-requires c =
-    fits (ready c.args.self _ c.requires) ColorImage _ c.color_image-p.result (rw (c.room.ensures.0, c.room.ensures.1) at c.color_image-p.ensures) (omega arith)
+plan c = planned c.requires (omega arith) c.room.ensures c.color_image-p.ensures
+
+pub finished-requires : goal.finished-requires
+finished-requires c = fits (plan (goal.at.finished-requires c).After-color_image-p) refl
 
 pub returns-then-p-eq0 : goal.returns-then-p-eq0
-unfolding counts_of foreground_in insert_in kind_ink leaves
-returns-then-p-eq0 c =
-    executes_finished _ _ _ (ready c.args.self _ c.requires) c.args.self.place ColorImage c.color_image-p.result (rw (c.room.ensures.0, c.room.ensures.1) at c.color_image-p.ensures) refl c.finished.ensures
-    (painted-zero c.if-p-eq0.true)
+returns-then-p-eq0 c = executes_kept (plan (goal.at.returns-then-p-eq0 c).After-color_image-p) refl c.finished.ensures (painted-zero c.if-p-eq0.true)
 
 pub span-requires : goal.span-requires
-unfolding counts_of
-span-requires c = few_behind c.args.self.frame c.args.dst.now (ready c.args.self _ c.requires) ColorImage _ c.color_image-p.result (rw (c.room.ensures.0, c.room.ensures.1) at c.color_image-p.ensures)
+span-requires c = few_behind (plan (goal.at.span-requires c).After-color_image-p)
 
 pub paint_image-requires : goal.paint_image-requires
-unfolding counts_of
 paint_image-requires c =
+    let p = plan (goal.at.paint_image-requires c).After-color_image-p in
     let is = c.span.ensures in
-    record {
-      place = has_place c.args.self.frame c.args.dst.now (ready c.args.self _ c.requires) ColorImage _ c.color_image-p.result (rw (c.room.ensures.0, c.room.ensures.1) at c.color_image-p.ensures) is;
-      operands = rw (is.bytes, is.pixels) (omega (arith, image-operands _ c.color_image-p.result _ c.args.self.run_length.pixels _ (rw (c.room.ensures.0, c.room.ensures.1) at c.color_image-p.ensures)));
-    }
+    record { place = has_place p is; operands = rw (is.bytes, is.pixels) (omega (arith, has_operands p)) }
 
 pub finished-requires-2 : goal.finished-requires-2
-unfolding counts_of
-finished-requires-2 c =
-    fits (ready c.args.self _ c.requires) ColorImage _ c.color_image-p.result (rw (c.room.ensures.0, c.room.ensures.1) at c.color_image-p.ensures) (omega arith)
+finished-requires-2 c = fits (plan (goal.at.finished-requires-2 c).After-color_image-p) refl
 
 pub returns : goal.returns
-unfolding counts_of foreground_in insert_in kind_ink leaves
+unfolding kind_ink
 returns c =
-    executes_finished _ _ _ (ready c.args.self _ c.requires) c.args.self.place ColorImage c.color_image-p.result (rw (c.room.ensures.0, c.room.ensures.1) at c.color_image-p.ensures) refl c.finished-2.ensures
+    executes_kept (plan (goal.at.returns c).After-color_image-p) refl c.finished-2.ensures
     (rw c.span.ensures.bytes at (next-painted c.span.ensures (rw take_rest at c.paint_image.ensures)))

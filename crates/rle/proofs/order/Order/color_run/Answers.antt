@@ -1,50 +1,42 @@
 -- `color_run` meets its contract: the run is painted as planned, in the color that it reads. Assumes nothing.
-use mathlib.Core.Path.{refl, ap}
+use mathlib.Core.Path.{refl}
 use native.Mathlib.Omega.{arith}
-use Rattle.definition.specs.Orders.{ColorRun}
-use Rattle.definition.specs.Decode.{solid}
-use Rattle.definition.specs.Plan.{counts_of, kind_ink, leaves, insert_in, foreground_in}
-use Rattle.rle.proofs.Painting.{painted-zero, painted_as, read_of_depth}
-use Rattle.rle.proofs.Carried.{ready}
-use Rattle.rle.proofs.Orders.{fits, operands-read, executes_finished, few_behind, has_place, next-painted}
+use Rattle.definition.specs.Plan.{counts_of, kind_ink}
+use Rattle.rle.specs.declared.kind.Kind.TheVariants.{ColorRun}
+use Rattle.rle.proofs.Painting.{painted-zero, read_of_depth}
+use Rattle.rle.proofs.Orders.{Planned, planned, fits, few_behind, has_place, has_operands, next-painted, executes_kept}
+use Rattle.rle.proofs.order.Order.color_run.Goals.{After-pixel_run-p}
 use Rattle.rle.proofs.order.Order.color_run.Goals as goal
 
-pub finished-requires : goal.finished-requires
+plan : (c : After-pixel_run-p) → Planned c.args.self ColorRun c.args.dst.now c.pixel_run-p.result
 unfolding counts_of
-finished-requires c =
-    fits (ready c.args.self _ c.requires) ColorRun _ c.pixel_run-p.result (rw (c.room.ensures.0, c.room.ensures.1) at c.pixel_run-p.ensures) (omega arith)
+plan c = planned c.requires (omega arith) c.room.ensures c.pixel_run-p.ensures
+
+pub finished-requires : goal.finished-requires
+finished-requires c = fits (plan (goal.at.finished-requires c).After-pixel_run-p) refl
 
 pub returns-then-p-eq0 : goal.returns-then-p-eq0
-unfolding counts_of foreground_in insert_in kind_ink leaves
-returns-then-p-eq0 c =
-    executes_finished _ _ _ (ready c.args.self _ c.requires) c.args.self.place ColorRun c.pixel_run-p.result (rw (c.room.ensures.0, c.room.ensures.1) at c.pixel_run-p.ensures) refl c.finished.ensures
-    (painted-zero c.if-p-eq0.true)
+returns-then-p-eq0 c = executes_kept (plan (goal.at.returns-then-p-eq0 c).After-pixel_run-p) refl c.finished.ensures (painted-zero c.if-p-eq0.true)
 
 pub read_pixel-color-requires : goal.read_pixel-color-requires
-unfolding counts_of
 read_pixel-color-requires c =
-    (c.args.self.frame.low, c.args.self.frame.high, omega (arith, operands-read _ c.pixel_run-p.result _ _ (rw (c.room.ensures.0, c.room.ensures.1) at c.pixel_run-p.ensures) (omega arith)))
+    ((c.args.self.frame.low, c.args.self.frame.high), omega (arith, has_operands (plan (goal.at.read_pixel-color-requires c).After-pixel_run-p) (omega arith)))
 
 pub span-requires : goal.span-requires
-unfolding counts_of
-span-requires c = few_behind c.args.self.frame c.args.dst.now (ready c.args.self _ c.requires) ColorRun _ c.pixel_run-p.result (rw (c.room.ensures.0, c.room.ensures.1) at c.pixel_run-p.ensures)
+span-requires c = few_behind (plan (goal.at.span-requires c).After-pixel_run-p)
 
 pub paint_run-requires : goal.paint_run-requires
-unfolding counts_of
 paint_run-requires c =
-    let frame = c.args.self.frame in
     record {
-      place = has_place c.args.self.frame c.args.dst.now (ready c.args.self _ c.requires) ColorRun _ c.pixel_run-p.result (rw (c.room.ensures.0, c.room.ensures.1) at c.pixel_run-p.ensures) c.span.ensures;
-      paintable = rw c.span.ensures.bytes (read_of_depth _ frame.low frame.high c.read_pixel-color.ensures);
+      place = has_place (plan (goal.at.paint_run-requires c).After-pixel_run-p) c.span.ensures;
+      paintable = rw c.span.ensures.bytes (read_of_depth _ c.args.self.frame.low c.args.self.frame.high c.read_pixel-color.ensures);
     }
 
 pub finished-requires-2 : goal.finished-requires-2
-unfolding counts_of
-finished-requires-2 c =
-    fits (ready c.args.self _ c.requires) ColorRun _ c.pixel_run-p.result (rw (c.room.ensures.0, c.room.ensures.1) at c.pixel_run-p.ensures) (omega arith)
+finished-requires-2 c = fits (plan (goal.at.finished-requires-2 c).After-pixel_run-p) refl
 
 pub returns : goal.returns
-unfolding counts_of foreground_in insert_in kind_ink leaves
+unfolding kind_ink
 returns c =
-    executes_finished _ _ _ (ready c.args.self _ c.requires) c.args.self.place ColorRun c.pixel_run-p.result (rw (c.room.ensures.0, c.room.ensures.1) at c.pixel_run-p.ensures) refl c.finished-2.ensures
-    (painted_as (λ _ _. ap solid c.read_pixel-color.ensures) (next-painted c.span.ensures c.paint_run.ensures))
+    executes_kept (plan (goal.at.returns c).After-pixel_run-p) refl c.finished-2.ensures
+    (next-painted c.span.ensures (rw c.read_pixel-color.ensures at c.paint_run.ensures))

@@ -1,65 +1,53 @@
 -- `dithered_run` meets its contract: the run is painted as planned, in the two colors that it reads. Assumes nothing.
-use mathlib.Core.Path.{refl, ap, sym, ◌∙◌}
-use mathlib.Core.List.{List}
-use Prim.Native.Nat.{ℕ}
+use mathlib.Core.Path.{◌≡◌, refl, sym, subst}
+use Prim.Native.Nat.{◌%◌}
 use native.Mathlib.Omega.{arith}
 use lib.Seq.{drop-drop}
-use Rattle.picture.specs.Pixels.{first_pixel}
-use Rattle.definition.specs.Orders.{DitheredRun}
-use Rattle.definition.specs.Decode.{dither_ink}
-use Rattle.definition.specs.Plan.{counts_of, kind_ink, leaves, insert_in, foreground_in}
-use Rattle.rle.proofs.Painting.{painted-zero, painted_as, read_of_depth}
-use Rattle.rle.proofs.Carried.{ready}
-use Rattle.rle.proofs.Orders.{fits, operands-read, pairs_even, executes_finished, few_behind, has_place, next-painted}
+use Rattle.definition.specs.Plan.{Counts, counts_of, kind_ink}
+use Rattle.rle.specs.declared.kind.Kind.TheVariants.{DitheredRun}
+use Rattle.definition.proofs.Planned.{pairs_read}
+use Rattle.rle.proofs.Painting.{painted-zero, read_of_depth}
+use Rattle.rle.proofs.Orders.{Planned, planned, fits, few_behind, has_place, has_operands, next-painted, executes_kept}
+use Rattle.rle.proofs.order.Order.dithered_run.Goals.{After-dithered_run-p}
 use Rattle.rle.proofs.order.Order.dithered_run.Goals as goal
 
-pub finished-requires : goal.finished-requires
+plan : (c : After-dithered_run-p) → Planned c.args.self DitheredRun c.args.dst.now c.dithered_run-p.result
 unfolding counts_of
-finished-requires c =
-    fits (ready c.args.self _ c.requires) DitheredRun _ c.dithered_run-p.result (rw (c.room.ensures.0, c.room.ensures.1) at c.dithered_run-p.ensures) (omega arith)
+plan c = planned c.requires (omega arith) c.room.ensures c.dithered_run-p.ensures
+
+pub finished-requires : goal.finished-requires
+finished-requires c = fits (plan (goal.at.finished-requires c).After-dithered_run-p) refl
 
 pub returns-then-p-eq0 : goal.returns-then-p-eq0
-unfolding counts_of foreground_in insert_in kind_ink leaves
-returns-then-p-eq0 c =
-    executes_finished _ _ _ (ready c.args.self _ c.requires) c.args.self.place DitheredRun c.dithered_run-p.result (rw (c.room.ensures.0, c.room.ensures.1) at c.dithered_run-p.ensures) refl c.finished.ensures
-    (painted-zero c.if-p-eq0.true)
+returns-then-p-eq0 c = executes_kept (plan (goal.at.returns-then-p-eq0 c).After-dithered_run-p) refl c.finished.ensures (painted-zero c.if-p-eq0.true)
 
 pub read_pixel-a-requires : goal.read_pixel-a-requires
-unfolding counts_of
 read_pixel-a-requires c =
-    (c.args.self.frame.low, c.args.self.frame.high, omega (arith, operands-read _ c.dithered_run-p.result _ _ (rw (c.room.ensures.0, c.room.ensures.1) at c.dithered_run-p.ensures) (omega arith)))
+    ((c.args.self.frame.low, c.args.self.frame.high), omega (arith, has_operands (plan (goal.at.read_pixel-a-requires c).After-dithered_run-p) (omega arith)))
 
 pub read_pixel-b-requires : goal.read_pixel-b-requires
-unfolding counts_of
 read_pixel-b-requires c =
-    (c.args.self.frame.low, c.args.self.frame.high, omega (arith, operands-read _ c.dithered_run-p.result _ _ (rw (c.room.ensures.0, c.room.ensures.1) at c.dithered_run-p.ensures) (omega arith)))
+    ((c.args.self.frame.low, c.args.self.frame.high), omega (arith, has_operands (plan (goal.at.read_pixel-b-requires c).After-dithered_run-p) (omega arith)))
 
 pub span-requires : goal.span-requires
-unfolding counts_of
-span-requires c = few_behind c.args.self.frame c.args.dst.now (ready c.args.self _ c.requires) DitheredRun _ c.dithered_run-p.result (rw (c.room.ensures.0, c.room.ensures.1) at c.dithered_run-p.ensures)
+span-requires c = few_behind (plan (goal.at.span-requires c).After-dithered_run-p)
 
 pub paint_dithered-requires : goal.paint_dithered-requires
-unfolding counts_of
 paint_dithered-requires c =
-    let frame = c.args.self.frame in
-    let is = c.span.ensures in
+    let f = c.args.self.frame in
     record {
-      place = has_place c.args.self.frame c.args.dst.now (ready c.args.self _ c.requires) DitheredRun _ c.dithered_run-p.result (rw (c.room.ensures.0, c.room.ensures.1) at c.dithered_run-p.ensures) is;
-      even = rw is.pixels (pairs_even _ c.dithered_run-p.result _ _ _ _ (rw (c.room.ensures.0, c.room.ensures.1) at c.dithered_run-p.ensures));
-      of_depth =
-          rw is.bytes
-          (read_of_depth _ frame.low frame.high c.read_pixel-a.ensures, read_of_depth _ frame.low frame.high c.read_pixel-b.ensures);
+      place = has_place (plan (goal.at.paint_dithered-requires c).After-dithered_run-p) c.span.ensures;
+      even = rw c.span.ensures.pixels (subst (λ (x : Counts). x.pixels % 2 ≡ 0) (sym c.dithered_run-p.ensures) (pairs_read _ _ _ _ _));
+      of_depth = rw c.span.ensures.bytes (read_of_depth _ f.low f.high c.read_pixel-a.ensures, read_of_depth _ f.low f.high c.read_pixel-b.ensures);
     }
 
 pub finished-requires-2 : goal.finished-requires-2
-unfolding counts_of
-finished-requires-2 c =
-    fits (ready c.args.self _ c.requires) DitheredRun _ c.dithered_run-p.result (rw (c.room.ensures.0, c.room.ensures.1) at c.dithered_run-p.ensures) (omega arith)
+finished-requires-2 c = fits (plan (goal.at.finished-requires-2 c).After-dithered_run-p) refl
 
 pub returns : goal.returns
-unfolding counts_of foreground_in insert_in kind_ink leaves
+unfolding kind_ink
 returns c =
-    let first = c.read_pixel-a.ensures in
-    let second = c.read_pixel-b.ensures ∙ ap (λ (l : List ℕ). first_pixel c.args.self.frame.depth.bytes l) (sym (drop-drop c.args.self.frame.depth.bytes c.args.self.state.walk.pos c.args.self.src.now)) in
-    executes_finished _ _ _ (ready c.args.self _ c.requires) c.args.self.place DitheredRun c.dithered_run-p.result (rw (c.room.ensures.0, c.room.ensures.1) at c.dithered_run-p.ensures) refl c.finished-2.ensures
-    (painted_as (λ j _ h. dither_ink (first h) (second h) j) (next-painted c.span.ensures c.paint_dithered.ensures))
+    let o = c.args.self in
+    let behind = drop-drop o.frame.depth.bytes o.state.walk.pos o.src.now in
+    executes_kept (plan (goal.at.returns c).After-dithered_run-p) refl c.finished-2.ensures
+    (next-painted c.span.ensures (rw (c.read_pixel-a.ensures, c.read_pixel-b.ensures, ← behind) at c.paint_dithered.ensures))

@@ -1,46 +1,25 @@
 -- `fg_run` meets its contract: the run is painted as planned, with the foreground that it reads or that of the state. Assumes nothing.
-use mathlib.Core.Path.{◌∙◌}
 use native.Mathlib.Omega.{arith}
-use Rattle.definition.specs.Plan.{leaves}
-use Rattle.rle.specs.Kinds.{kind_in}
-use Rattle.rle.specs.States.{frame_of, state_of}
-use Rattle.rle.proofs.Painting.{painted_as}
-use Rattle.rle.proofs.Inks.{fg_paintable, fg-is, foreground_of_depth}
-use Rattle.rle.proofs.Carried.{ready}
-use Rattle.rle.proofs.Orders.{fits, fits_with, executes_finished, few_behind, has_place, next-painted}
-use Rattle.rle.proofs.Sharing.{run_ink}
+use Rattle.rle.proofs.Orders.{Planned, planned, fits, few_behind, has_place, own_paintable, next-painted, executes_painted}
+use Rattle.rle.proofs.Sharing.{fg-painted}
+use Rattle.rle.proofs.order.Order.fg_run.Goals.{After-fg_run-p}
 use Rattle.rle.proofs.order.Order.fg_run.Goals as goal
 
+plan : (c : After-fg_run-p) → Planned c.args.self c.args.self.kind c.args.dst.now c.fg_run-p.result
+plan c = planned c.requires.place (omega arith) c.room.ensures c.fg_run-p.ensures
+
 pub span-requires : goal.span-requires
-span-requires c =
-    few_behind c.args.self.frame c.args.dst.now (ready c.args.self _ c.requires.place) (kind_in c.args.self.kind) _ c.fg_run-p.result
-    (rw (c.room.ensures.0, c.room.ensures.1) at c.fg_run-p.ensures)
+span-requires c = few_behind (plan (goal.at.span-requires c).After-fg_run-p)
 
 pub paint_fg_run-requires : goal.paint_fg_run-requires
 paint_fg_run-requires c =
-    let o = c.args.self in
-    let able = ready o _ c.requires.place in
-    record {
-      place =
-          has_place o.frame c.args.dst.now able (kind_in c.args.self.kind) _ c.fg_run-p.result
-          (rw (c.room.ensures.0, c.room.ensures.1) at c.fg_run-p.ensures) c.span.ensures;
-      paintable =
-          rw (c.fg_ink.ensures, c.with_foreground-t.ensures)
-          (fg_paintable c.span.ensures o.holds.row (foreground_of_depth able.frame o.holds.foreground _ (leaves (kind_in c.args.self.kind))));
-    }
+    let p = plan (goal.at.paint_fg_run-requires c).After-fg_run-p in
+    record { place = has_place p c.span.ensures; paintable = (own_paintable p c.with_foreground-t.ensures c.fg_ink.ensures c.span.ensures).0 }
 
 pub finished-requires : goal.finished-requires
-finished-requires c =
-    fits_with c.with_foreground-t.ensures
-    (fits (ready c.args.self _ c.requires.place) (kind_in c.args.self.kind) _ c.fg_run-p.result
-    (rw (c.room.ensures.0, c.room.ensures.1) at c.fg_run-p.ensures) (omega arith))
+finished-requires c = fits (plan (goal.at.finished-requires c).After-fg_run-p) c.with_foreground-t.ensures
 
 pub returns : goal.returns
 returns c =
-    let o = c.args.self in
-    let f = frame_of o.frame in
-    let new = c.with_foreground-t.ensures in
-    executes_finished _ _ _ (ready o _ c.requires.place) o.place (kind_in c.args.self.kind) c.fg_run-p.result
-    (rw (c.room.ensures.0, c.room.ensures.1) at c.fg_run-p.ensures) new c.finished.ensures
-    (painted_as (λ j _. fg-is o.state new c.fg_ink.ensures ∙ run_ink f (state_of f o.src.now c.args.dst.now o.state) c.requires.run j)
-    (next-painted c.span.ensures c.paint_fg_run.ensures))
+    executes_painted (plan (goal.at.returns c).After-fg_run-p) c.with_foreground-t.ensures c.finished.ensures
+    (fg-painted _ _ _ _ c.requires.run _ (next-painted c.span.ensures (rw c.fg_ink.ensures at c.paint_fg_run.ensures)))

@@ -1,46 +1,45 @@
 -- `special_fgbg` meets its contract: the image is painted as planned, which counts alike for both masks. Assumes nothing.
-use mathlib.Core.Path.{refl, ◌∙◌}
+use mathlib.Core.Path.{◌≡◌, refl, sym, ◌∙◌}
 use mathlib.Core.List.{[], ◌∷◌}
+use Prim.Native.Nat.{ℕ, ◌<◌}
+use native.Mathlib.Nat.{zero-add}
 use native.Mathlib.Omega.{arith}
-use Rattle.definition.specs.Orders.{SpecialFgBg1}
-use Rattle.definition.specs.Plan.{counts_of, image_ink}
-use Rattle.rle.specs.Kinds.{kind_in}
-use Rattle.rle.specs.States.{frame_of, state_of}
-use Rattle.rle.proofs.Painting.{painted_as}
-use Rattle.rle.proofs.Inks.{fg_paintable, fg_color, fg-is, zero-is}
-use Rattle.rle.proofs.Carried.{ready}
-use Rattle.rle.proofs.Orders.{fits, executes_finished, few_behind, has_place, next-painted}
-use Rattle.rle.proofs.Sharing.{special_eight, special_counts, special_leaves, special_few, special_whole, special_ink}
+use Rattle.definition.specs.Decode.{Ink, mask_ink}
+use Rattle.definition.specs.Plan.{image_ink}
+use Rattle.rle.proofs.Painting.{painted_as, mask_in_image}
+use Rattle.rle.proofs.Inks.{fg_paintable, fg_color, zero-is}
+use Rattle.rle.proofs.Orders.{Planned, planned, fits, few_behind, has_place, next-painted, executes_kept}
+use Rattle.rle.proofs.Sharing.{special_eight, special_counts, special_keeps, special_few, special_whole, special_painted}
+use Rattle.rle.proofs.order.Order.special_fgbg.Goals.{After-run-p}
 use Rattle.rle.proofs.order.Order.special_fgbg.Goals as goal
 
+-- an image of one mask
+one_mask : (fg bg : Ink) (m j : ℕ) → j < 8 → image_ink fg bg (m ∷ []) j ≡ mask_ink fg bg m j
+one_mask fg bg m j few = sym (rw zero-add at (mask_in_image fg bg (m ∷ []) 0 0 j refl few))
+
+plan : (c : After-run-p) → Planned c.args.self c.args.self.kind c.args.dst.now c.run-p.result
+plan c = planned c.requires.place (omega arith) c.room.ensures (c.run-p.ensures ∙ special_counts _ _ _ _ c.requires.special)
+
 pub span-requires : goal.span-requires
-unfolding counts_of
-span-requires c = few_behind c.args.self.frame c.args.dst.now (rw (special_eight c.requires.special c.args.self.fixed) at (ready c.args.self _ c.requires.place)) SpecialFgBg1 0 c.run-p.result (rw (c.room.ensures.0, c.room.ensures.1) at c.run-p.ensures)
+span-requires c = few_behind (plan (goal.at.span-requires c).After-run-p)
 
 pub paint_whole_masks-requires : goal.paint_whole_masks-requires
-unfolding counts_of
 paint_whole_masks-requires c =
-    let ready = (rw (special_eight c.requires.special c.args.self.fixed) at (ready c.args.self _ c.requires.place)) in
-    let is = c.span.ensures in
+    let o = c.args.self in
+    let counts = rw (special_eight c.requires.special o.fixed) at c.run-p.ensures in
     record {
-      place = has_place c.args.self.frame c.args.dst.now ready SpecialFgBg1 0 c.run-p.result (rw (c.room.ensures.0, c.room.ensures.1) at c.run-p.ensures) is;
-      paintable = rw c.fg_ink.ensures (fg_paintable is ready.invariant.row ready.invariant.foreground, fg_color c.args.self.state);
-      masks = rw is.pixels (omega (arith, special_whole _ _ c.run-p.result (rw (c.room.ensures.0, c.room.ensures.1) at c.run-p.ensures)), omega (arith, special_few _ _ c.run-p.result (rw (c.room.ensures.0, c.room.ensures.1) at c.run-p.ensures)));
+      place = has_place (plan (goal.at.paint_whole_masks-requires c).After-run-p) c.span.ensures;
+      paintable = rw c.fg_ink.ensures (fg_paintable c.span.ensures o.holds.row o.holds.foreground, fg_color o.state);
+      masks = rw c.span.ensures.pixels (omega (arith, special_whole _ _ _ counts), omega (arith, special_few _ _ _ counts));
     }
 
 pub finished-requires : goal.finished-requires
-unfolding counts_of
-finished-requires c = fits (rw (special_eight c.requires.special c.args.self.fixed) at (ready c.args.self _ c.requires.place)) SpecialFgBg1 0 c.run-p.result (rw (c.room.ensures.0, c.room.ensures.1) at c.run-p.ensures) (omega arith)
+finished-requires c = fits (plan (goal.at.finished-requires c).After-run-p) refl
 
 pub returns : goal.returns
 returns c =
-    let f = frame_of c.args.self.frame in
-    let fg = c.fg_ink.ensures in
-    let plans = rw (c.room.ensures.0, c.room.ensures.1) at c.run-p.ensures in
-    let few = special_few _ _ c.run-p.result plans in
-    rw (special_eight c.requires.special c.args.self.fixed)
-    (executes_finished _ _ _ (rw (special_eight c.requires.special c.args.self.fixed) at (ready c.args.self _ c.requires.place)) c.args.self.place (kind_in c.args.self.kind) c.run-p.result (plans ∙ special_counts _ _ _ _ c.requires.special) (special_leaves _ _ _ c.requires.special) c.finished.ensures
-    (painted_as
-    (λ j h. (λ t. image_ink (fg-is c.args.self.state refl fg t) (zero-is {p = c.args.self.state.foreground} c.args.self.frame c.args.self.state (rw (special_eight c.requires.special c.args.self.fixed) at (ready c.args.self _ c.requires.place)).frame.black refl fg t) (c.special_mask.result ∷ []) j)
-    ∙ special_ink f (state_of f c.args.self.src.now c.args.dst.now c.args.self.state) c.requires.special _ c.special_mask.ensures.first c.special_mask.ensures.second j (omega arith))
-    (next-painted c.span.ensures c.paint_whole_masks.ensures)))
+    let few = special_few _ _ _ (rw (special_eight c.requires.special c.args.self.fixed) at c.run-p.ensures) in
+    executes_kept (plan (goal.at.returns c).After-run-p) (special_keeps c.requires.special) c.finished.ensures
+    (special_painted _ _ _ _ c.requires.special _ c.special_mask.ensures.first c.special_mask.ensures.second _
+    (painted_as (λ j h. one_mask _ _ _ j (omega arith))
+    (next-painted c.span.ensures (rw (c.fg_ink.ensures, zero-is {p = c.args.self.state.foreground} c.args.self.frame c.args.self.state refl) at c.paint_whole_masks.ensures))))

@@ -12,9 +12,9 @@ unfolding new_foreground
 returns-then-d-o c =
     rw (foreground_is, sym c.sets_foreground.ensures ∙ c.if-sets_foreground.true, length-drop, le-leb _ _ c.if-d-o.true) c.read_pixel.ensures
 
-pub returns : goal.returns
+pub returns-else-sets_foreground : goal.returns-else-sets_foreground
 unfolding new_foreground
-returns c =
+returns-else-sets_foreground c =
     elim c.else-sets_foreground.branch [
       | else-sets_foreground-via-then-sets_foreground+else-d-o w ↦
           rw (foreground_is, sym c.sets_foreground.ensures ∙ w.if-sets_foreground.true, length-drop, lt-leb _ _ w.if-d-o.false)

@@ -2,10 +2,10 @@
 use lib.Seq.{drop-drop}
 use Rattle.std.proofs.lemmas.List.{take_rest}
 use Rattle.definition.specs.Plan.{kind_ink}
-use Rattle.picture.proofs.Pixels.{zeros_of_depth}
 use Rattle.rle.proofs.Painting.{painted-zero, painted_as, read_of_depth}
 use Rattle.rle.proofs.Inks.{inserted-is}
-use Rattle.rle.proofs.Operands.{color_depth, own_bg, fg-painted, masks-painted, special_painted, pixel-painted}
+use Rattle.rle.proofs.Orders.{own_bg}
+use Rattle.rle.proofs.Sharing.{color_depth, fg-painted, masks-painted, special_painted, pixel-painted}
 use Rattle.rle.proofs.plain.order.paint_order.Goals as goal
 
 pub returns-then-n-eq0 : goal.returns-then-n-eq0
@@ -22,8 +22,7 @@ paint_mask-requires-clause-bg c = own_bg c.args.o c.args.n c.requires.room c.row
 
 pub paint_run-requires-in-White-clause-paintable : goal.paint_run-requires-in-White-clause-paintable
 paint_run-requires-in-White-clause-paintable c =
-    let f = c.args.o.frame in
-    color_depth _ c.in-White.is f.white (rw f.black (zeros_of_depth f.depth.bytes)) c.white_or_black.ensures.white c.white_or_black.ensures.black
+    color_depth c.args.o.frame c.in-White.is c.white_or_black.ensures.white c.white_or_black.ensures.black
 
 pub paint_run-requires-in-ColorRun-clause-paintable : goal.paint_run-requires-in-ColorRun-clause-paintable
 paint_run-requires-in-ColorRun-clause-paintable c = read_of_depth _ c.args.o.frame.low c.args.o.frame.high c.read_pixel.ensures

@@ -1,13 +1,21 @@
 -- `decode` meets its contract. The invariant: what is left of the stream gives what the whole stream gives. Assumes nothing.
 use mathlib.Core.Path.{refl}
-use Prim.Native.Nat.{◌<◌}
 use native.Mathlib.Omega.{arith}
-use lib.ListN.{length}
-use Rattle.rle.specs.States.{first_row_ended}
+use Rattle.rle.specs.States.{frame_of, first_row_ended}
 use Rattle.rle.proofs.Endings.{fails, completes}
-use Rattle.rle.proofs.FirstRow.{row_ended, insert_ended, row_again, invariant_marked}
-use Rattle.rle.proofs.Stream.{invariant_at, order_read, order-refused, between_start, between_end, between_marked, decodes_refused, between_on}
+use Rattle.rle.proofs.FirstRow.{row_ended, insert_ended, row_again}
+use Rattle.rle.proofs.Stream.{Advances, advanced, order-refused, between_start, between_end, between_marked, decodes_refused, between_on}
+use Rattle.rle.proofs.plain.decode.PlainDecoder.decode.Goals.{After-order-r}
 use Rattle.rle.proofs.plain.decode.PlainDecoder.decode.Goals as goal
+
+advances : (c : After-order-r)
+    → Advances (frame_of c.args.f) c.args.src.now c.args.dst.now c.loop-o.dst c.order-r.new.dst (first_row_ended c.args.f c.loop-o.s) c.order-r.result
+advances c =
+    let f = c.args.f in
+    let s = c.loop-o.s in
+    let at = rw c.in-Ok-Some.field-0-is at c.in-Ok-Some.ensures in
+    advanced f _ _ (row_again f s) (between_marked f c.loop-o.invariant (omega (arith, at.reads, at.place))) at
+    (rw (insert_ended f s, row_ended f s) at c.order-r.ensures)
 
 pub loop-o-init : goal.loop-o-init
 loop-o-init c =
@@ -15,62 +23,18 @@ loop-o-init c =
 
 pub returns-in-Ok-None : goal.returns-in-Ok-None
 returns-in-Ok-None c =
-    between_end _ _ _ _ _ c.loop-o.invariant refl (rw c.in-Ok-None.field-0-is at c.in-Ok-None.ensures)
+    between_end c.loop-o.invariant refl (rw c.in-Ok-None.field-0-is at c.in-Ok-None.ensures)
 
 pub returns-in-Err : goal.returns-in-Err
 returns-in-Err c =
-    let l = c.loop-o in
-    let a = c.args in
+    let f = c.args.f in
+    let s = c.loop-o.s in
     let at = c.in-Err.ensures in
-    let inside : l.s.walk.pos < length a.src.now = omega (arith, at.reads, at.place) in
-    let marked = between_marked a.f _ _ _ l.s l.invariant inside in
-    rw (insert_ended c.args.f c.loop-o.s, row_ended c.args.f c.loop-o.s)
-    (decodes_refused _ _ _ _ _ marked inside _ _ (order-refused a.f _ _ (first_row_ended a.f l.s) (row_again a.f l.s) at marked.invariant) _ refl)
-
-pub invariant_of-next-clause-place : goal.invariant_of-next-clause-place
-invariant_of-next-clause-place c =
-    let at = rw c.in-Ok-Some.field-0-is at c.in-Ok-Some.ensures in
-    at.place
-
-pub invariant_of-next-clause-holds : goal.invariant_of-next-clause-holds
-invariant_of-next-clause-holds c =
-    let l = c.loop-o in
-    rw (insert_ended c.args.f l.s, row_ended c.args.f l.s) (invariant_at _ (invariant_marked c.args.f l.s l.invariant.invariant))
-
-pub invariant_of-next-clause-fixed : goal.invariant_of-next-clause-fixed
-invariant_of-next-clause-fixed c =
-    let at = rw c.in-Ok-Some.field-0-is at c.in-Ok-Some.ensures in
-    at.fixed
-
-pub order-r-requires : goal.order-r-requires
-order-r-requires c = rw c.loop-o.invariant.same c.requires
+    rw (insert_ended f s, row_ended f s)
+    (decodes_refused (order-refused f _ _ (row_again f s) (between_marked f c.loop-o.invariant (omega (arith, at.reads, at.place))) at) refl)
 
 pub returns-then-is_err : goal.returns-then-is_err
-returns-then-is_err c =
-    let l = c.loop-o in
-    let at = rw c.in-Ok-Some.field-0-is at c.in-Ok-Some.ensures in
-    let m = between_marked c.args.f _ _ _ l.s l.invariant (omega (arith, at.reads, at.place)) in
-    let d =
-    order_read c.args.f _ _ (first_row_ended c.args.f l.s) (row_again c.args.f l.s) at _ _
-    (rw (insert_ended c.args.f c.loop-o.s, row_ended c.args.f c.loop-o.s) at c.order-r.ensures) in
-    decodes_refused _ _ _ _ _ m d.2 _ _ d.0 _ (fails c.order-r.result.ending c.if-is_err.ensures.value).is
-
-pub loop-o-smaller : goal.loop-o-smaller
-loop-o-smaller c =
-    let l = c.loop-o in
-    let at = rw c.in-Ok-Some.field-0-is at c.in-Ok-Some.ensures in
-    let m = between_marked c.args.f _ _ _ l.s l.invariant (omega (arith, at.reads, at.place)) in
-    let d =
-    order_read c.args.f _ _ (first_row_ended c.args.f l.s) (row_again c.args.f l.s) at _ _
-    (rw (insert_ended c.args.f c.loop-o.s, row_ended c.args.f c.loop-o.s) at c.order-r.ensures) in
-    omega (arith, d.1, d.2)
+returns-then-is_err c = decodes_refused (advances (goal.at.returns-then-is_err c).After-order-r) (fails _ c.if-is_err.ensures.value).is
 
 pub loop-o-preserved : goal.loop-o-preserved
-loop-o-preserved c =
-    let l = c.loop-o in
-    let at = rw c.in-Ok-Some.field-0-is at c.in-Ok-Some.ensures in
-    let m = between_marked c.args.f _ _ _ l.s l.invariant (omega (arith, at.reads, at.place)) in
-    let d =
-    order_read c.args.f _ _ (first_row_ended c.args.f l.s) (row_again c.args.f l.s) at _ _
-    (rw (insert_ended c.args.f c.loop-o.s, row_ended c.args.f c.loop-o.s) at c.order-r.ensures) in
-    between_on _ _ _ _ _ m d.2 _ _ d.0 (completes c.order-r.result.ending c.if-is_err.ensures.value) d.1 c.order-r.auto.dst
+loop-o-preserved c = between_on (advances (goal.at.loop-o-preserved c).After-order-r) (completes _ c.if-is_err.ensures.value) c.order-r.auto.dst

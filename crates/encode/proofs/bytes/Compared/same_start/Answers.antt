@@ -1,0 +1,19 @@
+-- `same_start` meets its contract. Assumes nothing.
+use native.Mathlib.Omega.{arith}
+use Rattle.std.proofs.lemmas.List.{take_rest}
+use Rattle.encode.proofs.Comparing.{start_le, start-rest}
+use Rattle.encode.proofs.bytes.Compared.same_start.Goals as goal
+
+pub overflow_add-result : goal.overflow_add-result
+overflow_add-result c =
+    let n = rw (take_rest, take_rest) at c.count_same.ensures in
+    omega (
+      arith,
+      start_le c.args.self.here.now c.args.self.back.now,
+      start-rest c.args.self.here.now c.args.self.back.now c.count_blocks-j.result c.count_blocks-j.ensures.same,
+    )
+
+pub returns : goal.returns
+returns c =
+    let n = rw (take_rest, take_rest) at c.count_same.ensures in
+    rw n (start-rest c.args.self.here.now c.args.self.back.now c.count_blocks-j.result c.count_blocks-j.ensures.same)
