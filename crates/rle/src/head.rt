@@ -10,7 +10,7 @@ use crate::kind::Kind;
 use crate::length::Length;
 use crate::reader::Reader;
 use crate::record::Place;
-use buf::Buf;
+use buf::{Buf, u8_from};
 use picture::RleError;
 
 // A run length in pixels, where it stands, and the next place in the stream.
@@ -108,9 +108,11 @@ pub(crate) fn read_head(
 ) -> Result<Option<OrderHead>, NoLength>
     ensures { ReadsHead src.now pos result }
 {
-    let Some(&header) = src.get(pos) else {
+    let Ok(byte) = u8_from(src, pos) else {
         return Ok(None);
     };
+    // The read gives a byte as a number.
+    let header = byte as u8;
     let kind = headers.kind(header);
     let behind = Reader {
         at: Buf::new(src, pos + 1),
