@@ -43,6 +43,79 @@ static void decompress() {
          "nulambiro_decompress for a large picture");
 }
 
+// As Report: the start of a stream is written over what the state held before.
+struct State {
+  uint64_t places[NULAMBIRO_STATE_PLACES];
+  explicit State(size_t bpp) {
+    std::memset(places, 0xff, sizeof places);
+    nulambiro_start(bpp, places);
+  }
+  bool is(const uint64_t (&expected)[NULAMBIRO_STATE_PLACES]) const {
+    return std::memcmp(places, expected, sizeof places) == 0;
+  }
+};
+
+static void start() {
+  const uint64_t white[5][2] = {
+      {8, 0xff}, {15, 0x7fff}, {16, 0xffff}, {24, 0xffffff}, {9, 0}};
+  for (const auto &depth : white) {
+    const uint64_t expected[8] = {0, 0, depth[1], 0, 1, 0, 0, 0};
+    expect(State(depth[0]).is(expected), "nulambiro_start");
+  }
+}
+
+static void decompress_some() {
+  // A background run of a row and one of a pixel, a set-foreground run of two
+  // pixels, and a pixel that is white, in a picture of 4 x 2 pixels.
+  const uint8_t stream[] = {0x04, 0x01, 0xc2, 7, 0xfd};
+  uint8_t target[9] = {9, 9, 9, 9, 9, 9, 9, 9, 9};
+  State state(8);
+  const auto some = [&](size_t limit, uint64_t (&places)[8]) {
+    Report report;
+    nulambiro_decompress_some(stream, sizeof stream, target, sizeof target, 4,
+                              2, 8, limit, places, report.places);
+    return report;
+  };
+
+  const uint64_t behind_1[8] = {1, 4, 0xff, 1, 1, 1, 0, 0};
+  const uint8_t row[9] = {0, 0, 0, 0, 9, 9, 9, 9, 9};
+  Report report = some(1, state.places);
+  expect(report[NULAMBIRO_FORMAT] == 0 &&
+             report[NULAMBIRO_REFUSAL] == NULAMBIRO_OK &&
+             report[NULAMBIRO_PIXELS] == 4 && report[NULAMBIRO_ORDERS] == 1 &&
+             report[6] == 0 && report[7] == 0 && state.is(behind_1) &&
+             std::memcmp(target, row, sizeof row) == 0,
+         "nulambiro_decompress_some where it is paused");
+
+  some(0, state.places);
+  expect(state.is(behind_1), "nulambiro_decompress_some for no order");
+
+  const uint64_t behind_3[8] = {4, 7, 7, 0, 0, 3, 0, 0};
+  target[7] = 8;
+  report = some(2, state.places);
+  expect(report[NULAMBIRO_PIXELS] == 7 && report[NULAMBIRO_ORDERS] == 3 &&
+             state.is(behind_3) && target[7] == 8,
+         "nulambiro_decompress_some from a state on");
+
+  const uint8_t picture[9] = {0, 0, 0, 0, 0, 7, 7, 0xff, 9};
+  report = some(1, state.places);
+  expect(report[NULAMBIRO_FORMAT] == 8 && report[NULAMBIRO_PIXELS] == 8 &&
+             report[NULAMBIRO_ORDERS] == 4 && state.is(behind_3) &&
+             std::memcmp(target, picture, sizeof picture) == 0,
+         "nulambiro_decompress_some at the end");
+
+  // An insert is pending or not.
+  uint64_t no_state[8] = {4, 7, 7, 2, 0, 3, 0, 0};
+  report = some(1, no_state);
+  expect(report[NULAMBIRO_FORMAT] == 0 &&
+             report[NULAMBIRO_REFUSAL] == NULAMBIRO_BAD_STATE &&
+             report[NULAMBIRO_FIRST] == 0 && report[NULAMBIRO_SECOND] == 0 &&
+             report[NULAMBIRO_PIXELS] == 0 && report[NULAMBIRO_ORDERS] == 0 &&
+             no_state[NULAMBIRO_STATE_INSERT] == 2 &&
+             std::memcmp(target, picture, sizeof picture) == 0,
+         "nulambiro_decompress_some for numbers of no state");
+}
+
 static void compress() {
   // Two rows of 4 pixels: three equal ones and another, and the same again.
   const uint8_t pixels[9] = {5, 5, 5, 6, 5, 5, 5, 6, 7};
@@ -187,6 +260,8 @@ static void rows() {
 
 int main() {
   decompress();
+  start();
+  decompress_some();
   compress();
   orders();
   colors();

@@ -1,7 +1,8 @@
 /*
- * Counts the instructions that one order takes by the run writers, by the plain
- * loop and in a walk without a target, with callgrind: a stream of many equal
- * orders less a stream of half as many, divided by the difference.
+ * Counts the instructions that one order takes by the run writers, also with a
+ * pause every 16 orders, by the plain loop and in a walk without a target, with
+ * callgrind: a stream of many equal orders less a stream of half as many,
+ * divided by the difference.
  * The rows have 1024 pixels. `bench/run instructions` builds it, runs it under
  * valgrind and prints the table.
  */
@@ -80,6 +81,17 @@ static size_t by_run_writers(const uint8_t *src, size_t src_len, uint8_t *dst, s
   return report[NULAMBIRO_PIXELS];
 }
 
+/* Pauses every 16 orders. */
+static size_t by_pauses(const uint8_t *src, size_t src_len, uint8_t *dst, size_t dst_len,
+                        size_t width, size_t height, size_t bpp) {
+  uint64_t state[NULAMBIRO_STATE_PLACES], report[NULAMBIRO_REPORT_PLACES];
+  nulambiro_start(bpp, state);
+  do {
+    nulambiro_decompress_some(src, src_len, dst, dst_len, width, height, bpp, 16, state, report);
+  } while (!report[NULAMBIRO_FORMAT] && !report[NULAMBIRO_REFUSAL]);
+  return report[NULAMBIRO_PIXELS];
+}
+
 /* Looks for an order that no stream has, so goes over all of them. */
 static size_t by_walk(const uint8_t *src, size_t src_len, uint8_t *dst, size_t dst_len,
                       size_t width, size_t height, size_t bpp) {
@@ -98,6 +110,7 @@ typedef struct {
 
 static const decoder DECODERS[] = {
     {"run writers", by_run_writers, 1},
+    {"pauses of 16", by_pauses, 1},
     {"plain loop", nulambiro_plain_decompress, 1},
     {"walk", by_walk, 0},
 };

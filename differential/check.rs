@@ -5,7 +5,9 @@ use crate::case::Case;
 use crate::lent::Lent;
 use crate::library::{self, Report};
 use crate::oracle::{self, OLD};
+use crate::pauses::{self, Due, State};
 use crate::same::{same, same_bytes, Checked};
+use crate::states;
 use crate::walks;
 
 /// What is looked at beside the answer, the bytes of a target of the picture's length, and the
@@ -25,6 +27,10 @@ pub enum Effort {
 pub struct Checker {
     /// Records of orders compared so far.
     pub records: u64,
+    /// Pauses between calls so far.
+    pub pauses: u64,
+    /// Made-up states so far that were gone on from.
+    pub good_states: u64,
     lent: Lent,
     oracle: [Vec<u8>; 2],
 }
@@ -33,6 +39,7 @@ impl Checker {
     pub fn check(&mut self, case: Case, effort: Effort) -> Checked {
         let report = self.exact(case, 0)?;
         self.records += walks::check(case, report)?;
+        self.paused(case, report)?;
         if effort == Effort::Basic {
             return Ok(());
         }
@@ -63,6 +70,26 @@ impl Checker {
         same_bytes("target", &self.oracle[which], self.lent.target())?;
         self.promised(case, report)?;
         Ok(report)
+    }
+
+    /// Calls that pause give the same report and bytes.
+    fn paused(&mut self, case: Case, report: Report) -> Checked {
+        let (target, old) = (&self.oracle[0], OLD[0]);
+        let due = Due {
+            report,
+            target,
+            old,
+        };
+        self.pauses += pauses::check(case, due, self.lent.preset(target.len(), old))?;
+        same("guard bytes untouched", true, self.lent.is_guarded())
+    }
+
+    /// Going on from a state that is made up.
+    pub fn check_state(&mut self, case: Case, state: State, limits: [usize; 2]) -> Checked {
+        let good = states::check(case, state, limits, &mut self.lent)
+            .map_err(|what| format!("from state {state:?}, limits {limits:?}: {what}"))?;
+        self.good_states += u64::from(good);
+        Ok(())
     }
 
     /// What holds of every report.

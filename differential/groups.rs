@@ -7,6 +7,7 @@ use crate::limits::{BPPS, SIDES};
 use crate::random::Random;
 use crate::same::Checked;
 use crate::shrink::Failure;
+use crate::states;
 use crate::streams::{bytes, damage, filling, forms, orders, picture, DEPTHS};
 use crate::walks;
 use std::ops::RangeInclusive;
@@ -57,8 +58,9 @@ impl Run {
         }
     }
 
-    /// Runs every group of the mode; returns the numbers of streams and of records compared.
-    pub fn all(mut self) -> (u64, u64) {
+    /// Runs every group of the mode; returns the numbers of streams, of records compared, and of
+    /// pauses.
+    pub fn all(mut self) -> (u64, u64, u64) {
         self.sizes_and_depths();
         match self.mode {
             Mode::Short => {
@@ -68,6 +70,7 @@ impl Run {
                 self.package(50_000);
                 self.largest();
                 self.made_up_walks(100_000);
+                self.made_up_states(100_000);
             }
             Mode::Long => {
                 self.every_stream("every stream of up to 2 bytes", 0..=2, &SMALL);
@@ -77,14 +80,16 @@ impl Run {
                 self.package(500_000);
                 self.largest();
                 self.made_up_walks(3_000_000);
+                self.made_up_states(3_000_000);
             }
             Mode::Valgrind => {
                 self.every_stream("every stream of up to 1 byte", 0..=1, &SMALL[..1]);
                 self.by_chance(3_000);
                 self.made_up_walks(3_000);
+                self.made_up_states(3_000);
             }
         }
-        (self.streams, self.checker.records)
+        (self.streams, self.checker.records, self.checker.pauses)
     }
 
     fn every_stream(&mut self, name: &str, lengths: RangeInclusive<usize>, sizes: &Sizes) {
@@ -255,6 +260,22 @@ impl Run {
         println!("made-up walks: {many} walks, {records} records");
     }
 
+    /// States that decoding goes on from, with numbers by chance. Their streams do not count either.
+    fn made_up_states(&mut self, many: usize) {
+        for _ in 0..many {
+            let (picture, stream) = self.any_picture();
+            let stream = &stream;
+            let case = Case { stream, picture };
+            let state = states::made_up(&mut self.random, case);
+            let limits = [5, 9].map(|most| self.random.below(most));
+            self.stop_if_wrong(case, |checker, case| {
+                checker.check_state(case, state, limits)
+            });
+        }
+        let good = self.checker.good_states;
+        println!("made-up states: {many} states, {good} of them good");
+    }
+
     /// A picture, with a depth and sizes that may be refused, and a stream in a block of exactly
     /// its length.
     fn any_picture(&mut self) -> (Picture, Box<[u8]>) {
@@ -282,7 +303,9 @@ impl Run {
     fn check(&mut self, case: Case, effort: Effort) {
         if self.mode == Mode::Valgrind {
             self.hold(case, |checker, case| {
-                checker.records += heap::check(case)?;
+                let (records, pauses) = heap::check(case)?;
+                checker.records += records;
+                checker.pauses += pauses;
                 Ok(())
             });
         } else {

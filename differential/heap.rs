@@ -6,21 +6,31 @@ use crate::answer::refused;
 use crate::case::Case;
 use crate::library::{decode_in_new_block, Report};
 use crate::oracle;
+use crate::pauses::{self, Due};
 use crate::walks;
 
 /// What the oracle's target holds where nothing is painted.
 const OLD: u8 = oracle::OLD[0];
 
-/// Returns how many records of orders were compared.
-pub fn check(case: Case) -> Result<u64, String> {
+/// Returns how many records of orders were compared, and how many pauses there were.
+pub fn check(case: Case) -> Result<(u64, u64), String> {
     let stream: Box<[u8]> = case.stream.into();
     let case = Case {
         stream: &stream,
         ..case
     };
     targets(case)?;
-    let (report, _) = decode_in_new_block(case, case.picture.target_len());
-    walks::check(case, report)
+    let len = case.picture.target_len();
+    let (report, mut picture) = decode_in_new_block(case, len);
+    picture.resize(len, OLD);
+    let due = Due {
+        report,
+        target: &picture,
+        old: OLD,
+    };
+    let mut target = vec![OLD; len].into_boxed_slice();
+    let pauses = pauses::check(case, due, &mut target)?;
+    Ok((walks::check(case, report)?, pauses))
 }
 
 fn targets(case: Case) -> Result<(), String> {

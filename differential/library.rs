@@ -4,6 +4,8 @@ use crate::answer::{answer, Answer};
 use crate::case::{Case, Picture};
 use crate::ffi::nulambiro_decompress;
 use crate::ffi_orders::{nulambiro_next_order, nulambiro_order_record};
+use crate::ffi_pauses::{self, nulambiro_decompress_some};
+use crate::pauses::State;
 use crate::records::{Record, Walk};
 
 /// The library's whole report.
@@ -13,6 +15,23 @@ pub struct Report {
     pub pixels: u64,
     pub orders: u64,
     pub unused: [u64; 2],
+}
+
+impl From<[u64; 8]> for Report {
+    fn from(places: [u64; 8]) -> Self {
+        let [format, refusal, first, second, pixels, orders, unused @ ..] = places;
+        Self {
+            answer: Answer {
+                format,
+                refusal,
+                first,
+                second,
+            },
+            pixels,
+            orders,
+            unused,
+        }
+    }
 }
 
 pub fn decode(case: Case, target: &mut [u8]) -> Report {
@@ -47,22 +66,36 @@ unsafe fn call(case: Case, target: *mut u8, len: usize) -> Report {
     let places = report.as_mut_ptr();
     // SAFETY: the stream is a slice, the caller vouches for the target, the report has its eight
     // places, and the three are apart. The library writes all places.
-    let report = unsafe {
+    unsafe {
         nulambiro_decompress(src, src_len, target, len, width, height, bpp, places);
-        report.assume_init()
-    };
-    let [format, refusal, first, second, pixels, orders, unused @ ..] = *report;
-    Report {
-        answer: Answer {
-            format,
-            refusal,
-            first,
-            second,
-        },
-        pixels,
-        orders,
-        unused,
+        Report::from(*report.assume_init())
     }
+}
+
+/// The state at the start of a stream.
+pub fn start(bpp: usize) -> State {
+    ffi_pauses::start(bpp)
+}
+
+/// Decodes at most so many orders from a state on, which is moved on where decoding pauses.
+pub fn decode_some(case: Case, target: &mut [u8], limit: usize, state: &mut State) -> Report {
+    let Picture { width, height, bpp } = case.picture;
+    let (src, src_len) = (case.stream.as_ptr(), case.stream.len());
+    let (dst, len) = (target.as_mut_ptr(), target.len());
+    // On the heap, and the report not initialized, as in `call`.
+    let mut next = Box::new(*state);
+    let mut report = Box::<[u64; 8]>::new_uninit();
+    let places = report.as_mut_ptr();
+    // SAFETY: stream and target are slices, state and report have their eight places, and the four
+    // are apart. The library writes all places of the report.
+    let report = unsafe {
+        nulambiro_decompress_some(
+            src, src_len, dst, len, width, height, bpp, limit, &mut *next, places,
+        );
+        Report::from(*report.assume_init())
+    };
+    *state = *next;
+    report
 }
 
 /// The next order's record, and the walk behind it.

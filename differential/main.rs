@@ -1,5 +1,5 @@
-//! Runs the library beside the unchanged `rle.rs`, and the records of a stream's orders beside a
-//! plain reader; stops at the first difference.
+//! Runs the library beside the unchanged `rle.rs`, the records of a stream's orders beside a plain
+//! reader, and calls that pause beside one that does not; stops at the first difference.
 //!
 //! Arguments: short, long or valgrind, and a seed. The script `run` builds and calls it.
 #![deny(unsafe_code)]
@@ -14,6 +14,9 @@ mod ffi;
 #[allow(dead_code, unsafe_code)]
 #[path = "../rust/src/ffi_orders.rs"]
 mod ffi_orders;
+#[allow(dead_code, unsafe_code)]
+#[path = "../rust/src/ffi_pauses.rs"]
+mod ffi_pauses;
 mod groups;
 mod heap;
 mod lent;
@@ -21,11 +24,13 @@ mod lent;
 mod library;
 mod limits;
 mod oracle;
+mod pauses;
 #[path = "../rust/tests/common/random.rs"]
 mod random;
 mod records;
 mod same;
 mod shrink;
+mod states;
 mod streams;
 mod walks;
 
@@ -45,8 +50,10 @@ fn main() {
         usage();
     };
     println!("{} with seed {seed}", arguments[0]);
-    let (streams, records) = Run::new(mode, seed).all();
-    println!("total: {streams} streams and {records} records of orders, no difference");
+    let (streams, records, pauses) = Run::new(mode, seed).all();
+    println!(
+        "total: {streams} streams, {records} records of orders and {pauses} pauses, no difference"
+    );
 }
 
 fn usage() -> ! {

@@ -6,7 +6,7 @@
  *
  * The library is one archive, libnulambiro.a, for x86-64. It has no state:
  * calls from several threads need no lock, as long as each has its own target
- * or output, walk and report.
+ * or output, state, walk and report.
  */
 #ifndef NULAMBIRO_H
 #define NULAMBIRO_H
@@ -24,11 +24,14 @@ extern "C" {
 /* A stream paints at most this many pixels for each of its bytes. */
 #define NULAMBIRO_MAX_PIXELS_PER_BYTE 26214
 
-/* Places in the report of nulambiro_decompress. */
+/* Places in the reports of nulambiro_decompress and
+ * nulambiro_decompress_some. */
 enum {
-  /* Bits per pixel of the decoded picture, 8, 15, 16 or 24; 0 if refused. */
+  /* Bits per pixel of the decoded picture, 8, 15, 16 or 24; 0 if refused, or if
+   * decoding is paused. */
   NULAMBIRO_FORMAT = 0,
-  /* One of the refusal numbers below; 0 if the stream was decoded. */
+  /* One of the refusal numbers below; 0 if the stream was decoded, or if
+   * decoding is paused. */
   NULAMBIRO_REFUSAL = 1,
   /* Two numbers that belong to the refusal; 0 where it names none. */
   NULAMBIRO_FIRST = 2,
@@ -46,7 +49,8 @@ enum {
  * first four are tested in the order of their numbers, before the stream is
  * read: they change no byte of the target, and both counts are 0. 5 to 8 come
  * from the stream: the pixels painted before them stay. The encoder, which
- * reads no stream, answers 1 to 4 and 14.
+ * reads no stream, answers 1 to 4 and 14. 15 is of nulambiro_decompress_some
+ * alone, which tests it between 4 and the stream.
  *
  * Inside an order its length is tested first (6 or 8), then the pixels that it
  * reads (6), then the space for all that it paints (7), and then it paints. A
@@ -76,7 +80,9 @@ enum {
   /* A run length of two bytes is 0. */
   NULAMBIRO_UNEXPECTED_ZERO_LENGTH = 8,
   /* The stream that is to be written is longer than the output. */
-  NULAMBIRO_OUTPUT_TOO_SHORT = 14
+  NULAMBIRO_OUTPUT_TOO_SHORT = 14,
+  /* The state is none of this stream and this picture. */
+  NULAMBIRO_BAD_STATE = 15
 };
 
 /*
@@ -116,6 +122,113 @@ enum {
 void nulambiro_decompress(const uint8_t *src, size_t src_len, uint8_t *dst,
                           size_t dst_len, size_t width, size_t height,
                           size_t bpp, uint64_t report[NULAMBIRO_REPORT_PLACES]);
+
+/* Places of a state, in which decoding pauses between two orders. */
+enum {
+  /* Bytes of the stream that are read. */
+  NULAMBIRO_STATE_BYTES = 0,
+  /* Pixels that are painted. */
+  NULAMBIRO_STATE_PIXELS = 1,
+  /* The foreground: its low byte + 256 * its middle byte + 65536 * its high
+   * byte. Bytes that the depth does not use are 0. */
+  NULAMBIRO_STATE_FOREGROUND = 2,
+  /* 1 if the last order was a background run, so that an insert is pending;
+   * else 0. */
+  NULAMBIRO_STATE_INSERT = 3,
+  /* 0 once an order has begun with the first row painted; else 1. */
+  NULAMBIRO_STATE_FIRST_ROW = 4,
+  /* Orders completed. */
+  NULAMBIRO_STATE_ORDERS = 5,
+  /* Places 6 and 7 are 0. */
+  NULAMBIRO_STATE_PLACES = 8
+};
+
+/*
+ * Writes to state where every stream of so many bits per pixel starts: nothing
+ * is read or painted, the foreground is white, no insert is pending, and the
+ * first row has not ended. Where bpp is none of 8, 15, 16 and 24, which
+ * nulambiro_decompress_some refuses, the foreground is 0.
+ *
+ * state must have NULAMBIRO_STATE_PLACES elements; all of them are written.
+ */
+void nulambiro_start(size_t bpp, uint64_t state[NULAMBIRO_STATE_PLACES]);
+
+/*
+ * Decodes as nulambiro_decompress does, but from state on, and at most limit
+ * orders. What came out is written to report. It is one of three:
+ * - Decoding is paused, NULAMBIRO_FORMAT and NULAMBIRO_REFUSAL are 0: this call
+ *   has completed limit orders, and the stream goes on behind them. The state
+ *   to go on from is written to state.
+ * - The stream is decoded, NULAMBIRO_FORMAT is not 0: its end is reached, maybe
+ *   with the last one of limit orders. state stays as it was.
+ * - It is refused, NULAMBIRO_REFUSAL is not 0. state stays as it was.
+ * So each call ends sooner or later, and a limit of 0 pauses at once, with the
+ * state as it is, or finds that the stream is at its end.
+ *
+ * NULAMBIRO_PIXELS and NULAMBIRO_ORDERS are counted from the start of the
+ * stream, not from the state. Each call does the work of its own orders alone:
+ *
+ *   uint64_t state[NULAMBIRO_STATE_PLACES], report[NULAMBIRO_REPORT_PLACES];
+ *   nulambiro_start(bpp, state);
+ *   for (;;) {
+ *     nulambiro_decompress_some(src, src_len, dst, dst_len, width, height, bpp,
+ *                               16, state, report);
+ *     if (report[NULAMBIRO_FORMAT] || report[NULAMBIRO_REFUSAL])
+ *       break;
+ *     ...
+ *   }
+ *
+ * Wherever such calls pause, the last one gives the report that
+ * nulambiro_decompress gives, and all of them paint the bytes that it paints.
+ * That is so if each call but the first gets the state that the one before it
+ * wrote, the stream, width, height and bpp stay the same, and nothing else
+ * writes the painted pixels of the target. Its other bytes may be written
+ * between two calls; the stream's later pixels will replace them. Also, the
+ * numbers of a state may be copied, and gone on from once more as long as the
+ * pixels that were painted then are the same.
+ *
+ * Refused are, in this order:
+ * - NULAMBIRO_INVALID_BPP, NULAMBIRO_EMPTY_IMAGE,
+ *   NULAMBIRO_DIMENSIONS_TOO_LARGE and NULAMBIRO_BUFFER_TOO_SHORT, as by
+ *   nulambiro_decompress.
+ * - NULAMBIRO_BAD_STATE: NULAMBIRO_STATE_BYTES is above src_len,
+ *   NULAMBIRO_STATE_PIXELS is above width * height, NULAMBIRO_STATE_ORDERS is
+ *   above NULAMBIRO_STATE_PIXELS, NULAMBIRO_STATE_FIRST_ROW is 0 with less than
+ *   width pixels, a byte of the foreground that the depth does not use is not
+ *   0, or the numbers are those of no state: a foreground of 2^24 or more, an
+ *   insert or a first row above 1, a place 6 or 7 that is not 0.
+ * - NULAMBIRO_BAD_ORDER_CODE to NULAMBIRO_UNEXPECTED_ZERO_LENGTH, from the
+ *   stream.
+ * All other numbers are taken, also those that no stream leads to. The first
+ * pixels of the target then count as those painted so far: the orders of later
+ * rows look at them.
+ *
+ * What holds after every call, whatever the stream and the numbers are:
+ * - The bytes of the target up to the state's pixels are as they were. Behind
+ *   them, up to the first report[NULAMBIRO_PIXELS] * D bytes, stand the painted
+ *   pixels. All later bytes are as they were, up to dst_len.
+ * - Refusals 1 to 4 and NULAMBIRO_BAD_STATE change no byte, and both counts are
+ *   0.
+ * - Nothing outside the target, the state and the report is written, nothing
+ *   outside them and the stream is read, and no memory is allocated.
+ * - Orders <= pixels <= width * height. For states that calls have reached from
+ *   nulambiro_start as said above, pixels <=
+ *   NULAMBIRO_MAX_PIXELS_PER_BYTE * src_len, and the painted pixels depend on
+ *   the stream, width, height and bpp alone.
+ *
+ * What the caller must provide:
+ * - src must be readable for src_len bytes, dst readable and writable for
+ *   dst_len bytes. Either may be a null pointer if its length is 0.
+ * - state and report must have NULAMBIRO_STATE_PLACES and
+ *   NULAMBIRO_REPORT_PLACES elements. All places of the report are written.
+ * - src, dst, state and report must not overlap.
+ * Nothing is required of the numbers: bad values are refused.
+ */
+void nulambiro_decompress_some(const uint8_t *src, size_t src_len, uint8_t *dst,
+                               size_t dst_len, size_t width, size_t height,
+                               size_t bpp, size_t limit,
+                               uint64_t state[NULAMBIRO_STATE_PLACES],
+                               uint64_t report[NULAMBIRO_REPORT_PLACES]);
 
 /* Places in the report of nulambiro_compress. */
 enum {

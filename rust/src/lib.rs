@@ -1,12 +1,14 @@
 //! Decodes and encodes interleaved RLE bitmaps, the compressed rectangles of the Remote Desktop
 //! Protocol (MS-RDPBCGR 2.2.9.1.1.3.1.2.4 and 3.1.9), by the proved library `libnulambiro.a`.
 //!
-//! There are two ways to call the decoder:
+//! There are three ways to call the decoder:
 //!
 //! - [`decompress_into`] decodes into a slice that the caller lends, allocates nothing and reports
 //!   how many pixels were painted and how many orders completed, also after a refusal.
 //! - The module [`rle`] has the functions and types of IronRDP's module `ironrdp_graphics::rle`,
 //!   under the same names. Code that uses that module needs only another `use`.
+//! - A [`Decoder`] stops after some orders, so that the picture can be shown and drawn on in
+//!   between, and goes on; the [`State`] in which it stops can be kept.
 //!
 //! [`compress`] and, into a slice that the caller lends, [`compress_into`] encode a picture as a
 //! stream that the decoder gives back whole, each byte the same.
@@ -76,13 +78,17 @@ mod ffi_colors;
 mod ffi_encoder;
 #[allow(unsafe_code)]
 mod ffi_orders;
+#[allow(unsafe_code)]
+mod ffi_pauses;
 mod orders;
+mod pauses;
 mod report;
 pub mod rle;
 
 pub use colors::{expand, palette_look, row_to_show, same_picture, Picture};
 pub use encoder::{compress, compress_bound, compress_into, CompressError};
 pub use orders::{order_record, order_records, LengthPlace, OrderRecord, OrderRecords};
+pub use pauses::{Decoder, Progress, ResumeError, State};
 pub use report::{Refusal, Report};
 pub use rle::RlePixelFormat;
 

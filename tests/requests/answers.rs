@@ -1,6 +1,6 @@
 //! Answers as text.
 
-use nulambiro::{CompressError, Refusal};
+use nulambiro::{CompressError, Refusal, ResumeError};
 use std::fmt::Write;
 
 pub fn hex(bytes: &[u8]) -> String {
@@ -42,6 +42,15 @@ impl Numbers for Refusal {
                 required_additional,
             } => (7, maximum_additional, required_additional),
             Self::UnexpectedZeroLength => (8, 0, 0),
+        }
+    }
+}
+
+impl Numbers for ResumeError {
+    fn numbers(&self) -> (u8, usize, usize) {
+        match self {
+            Self::Refused(refusal) => refusal.numbers(),
+            Self::BadState => (15, 0, 0),
         }
     }
 }

@@ -32,6 +32,11 @@ impl<'a> Block<'a> {
         number(self.value(key))
     }
 
+    /// Numbers, with commas between.
+    pub fn numbers(&self, key: &str) -> Vec<usize> {
+        self.value(key).split(',').map(number).collect()
+    }
+
     /// A byte string, in a heap block of exactly its length.
     pub fn bytes(&self, key: &str) -> Box<[u8]> {
         bytes(self.value(key)).into()
@@ -49,7 +54,7 @@ pub fn bytes(text: &str) -> Vec<u8> {
     bytes
 }
 
-fn number(word: &str) -> usize {
+pub fn number(word: &str) -> usize {
     word.parse()
         .unwrap_or_else(|_| stop(&format!("{word:?} is no number")))
 }

@@ -9,6 +9,7 @@ mod block;
 mod colors;
 mod encode;
 mod orders;
+mod pauses;
 mod same;
 
 use answers::{hex, Answer};
@@ -18,12 +19,13 @@ use std::process::exit;
 use std::{env, fs};
 
 /// The files of a folder, with what answers a case of each.
-const FILES: [(&str, fn(&Block) -> Answer); 5] = [
+const FILES: [(&str, fn(&Block) -> Answer); 6] = [
     ("02-expand", colors::expand),
     ("04-encode", encode::encode),
     ("05-look", colors::look),
     ("06-record", orders::record),
     ("08-same", same::same),
+    ("09-pause", pauses::pause),
 ];
 
 fn main() {
@@ -67,14 +69,22 @@ fn compare(folder: &Path, name: &str, answer: fn(&Block) -> Answer) -> usize {
     wrong
 }
 
-/// An answer that is due, with `output=` pair by pair: the files may have it in pieces, as inputs
-/// are.
+/// An answer that is due, with `output=` and `target=` pair by pair: the files may have them in
+/// pieces, as inputs are. What the package does not tell, the bytes read and the last kind, in a
+/// state behind its six numbers, is left out.
 fn written_out(due: &str) -> String {
     let line = |line: &str| match line.split_once('=') {
-        Some((key @ "output", pieces)) => format!("{key}={}", hex(&bytes(pieces))),
-        _ => line.to_string(),
+        Some(("read" | "last", _)) => None,
+        Some((key @ ("output" | "target"), pieces)) => {
+            Some(format!("{key}={}", hex(&bytes(pieces))))
+        }
+        Some((key @ "state", words)) => {
+            let words: Vec<&str> = words.split(',').take(6).collect();
+            Some(format!("{key}={}", words.join(",")))
+        }
+        _ => Some(line.to_string()),
     };
-    due.lines().map(line).collect::<Vec<_>>().join("\n")
+    due.lines().filter_map(line).collect::<Vec<_>>().join("\n")
 }
 
 fn read(path: &Path) -> String {

@@ -11,7 +11,7 @@ use borrow.Author.Tests.{leb-true, eqb-false}
 use Rattle.picture.specs.Sizes.{Refusal, Frame}
 use Rattle.base.proofs.Tests.{by_test}
 use Rattle.definition.specs.Orders.{Kind, BgRun, FgRun, FgBgImage, ColorRun, ColorImage, SetFgRun, SetFgBgImage, DitheredRun, SpecialFgBg1, SpecialFgBg2, White, Black, NoOrder, Place, nowhere, in_header, in_byte, in_two_bytes, row_of, place_of, own_length, mega_of, RunLength, run_length, refused, with_bytes, mega_length, mega_mega_length, length_at, length_of, headed, head_of}
-use Rattle.definition.specs.Decode.{State, start, Run, ended, paused, refused, at_end, then_run, run, decode}
+use Rattle.definition.specs.Decode.{State, start, Run, ended, paused, refused, at_end, then_run, run}
 use Rattle.definition.specs.Plan.{Ending, complete, refused, Counts, behind, with_operands, run_counts, image_counts, counts_of, progress_of, plan_by, plan_from, past_first_row, plan_of, end_with, plan_state, plan_step}
 use Rattle.definition.specs.Codes.{kind_number}
 use Rattle.definition.proofs.Painting.{length-paint}
@@ -154,12 +154,11 @@ module _ (f : Frame) (low : 1 ≤ f.bytes) (N : ℕ) where
       at_end_lem s.left _ b
       (λ some. rw step_planned (end_bounded (run f n) (run-bounded n) _ (read-bounded s _ _ b (length-read s.left some b.octets))))
 
--- orders completed are at most the pixels painted, and those at most 26,214 for each byte of the stream
-pub decode_bounds : (f : Frame) (stream : List ℕ) → 1 ≤ f.bytes → Bytes stream
-    → ((last (decode f stream)).orders ≤ length (last (decode f stream)).painted)
-    × (length (last (decode f stream)).painted ≤ 26214 * length stream)
-unfolding decode start
-decode_bounds f stream low octets =
-    let b = run-bounded f low (26214 * length stream) (length stream) (start f stream)
+-- however many orders from the start: those completed are at most the pixels painted, and those at most 26,214 for each byte of the stream
+pub start_bounds : (f : Frame) (n : ℕ) (stream : List ℕ) → 1 ≤ f.bytes → Bytes stream
+    → let t = last (run f n (start f stream)) in (t.orders ≤ length t.painted) × (length t.painted ≤ 26214 * length stream)
+unfolding start
+start_bounds f n stream low octets =
+    let b = run-bounded f low (26214 * length stream) n (start f stream)
     (record { counted = zero-le; paid = omega arith; octets = octets }) in
     (b.counted, omega (arith, b.paid))

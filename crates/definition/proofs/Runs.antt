@@ -26,6 +26,10 @@ unfolding at_end
 not_end [] a b h = absurd (omega arith)
 not_end (x ∷ xs) a b h = refl
 
+pub run_pause : (f : Frame) (s : State) → 0 < length s.left → run f 0 s ≡ paused s
+unfolding run
+run_pause f s h = not_end s.left _ _ h
+
 run_step : (f : Frame) (n : ℕ) (s : State) → 0 < length s.left → run f (suc n) s ≡ then_run (run f n) (step f s)
 unfolding run
 run_step f n s h = not_end s.left _ _ h
@@ -38,43 +42,55 @@ pub continues-start : (f : Frame) (src : List ℕ) → Continues f (decode f src
 unfolding decode start
 continues-start f src = continues-first f (start f src)
 
-module _ {f : Frame} {whole : Run} {s : State} (on : Continues f whole s) where
-  pub continues_end : s.left ≡ [] → ended s ≡ whole
-  continues_end e = sym (run_end f on.fuel s e) ∙ on.goes
+-- from the state s at most n orders give the run `whole`
+module _ (f : Frame) (n : ℕ) (s : State) {whole : Run} (goes : run f n s ≡ whole) where
+  pub goes_end : s.left ≡ [] → ended s ≡ whole
+  goes_end e = sym (run_end f n s e) ∙ goes
 
-  module _ (more : 0 < length s.left) where
-    next : (x : Step) → x ≡ step f s → then_run (run f (on.fuel - 1)) x ≡ whole
+  module _ (more : 0 < length s.left) (some : 0 < n) where
+    before : n ≡ suc (n - 1)
+    before = omega arith
+
+    next : (x : Step) → x ≡ step f s → then_run (run f (n - 1)) x ≡ whole
     next x e =
-        let n : on.fuel ≡ suc (on.fuel - 1) = omega (arith, on.enough) in
-        ap (λ (y : Step). then_run (run f (on.fuel - 1)) y) e
-        ∙ sym (run_step f (on.fuel - 1) s more)
-        ∙ ap (λ (m : ℕ). run f m s) (sym n)
-        ∙ on.goes
+        ap (λ (y : Step). then_run (run f (n - 1)) y) e
+        ∙ sym (run_step f (n - 1) s more)
+        ∙ ap (λ (m : ℕ). run f m s) (sym before)
+        ∙ goes
 
     -- another state from which the next order is the same
-    pub continues_as : (t : State) → t.left ≡ s.left → step f t ≡ step f s → Continues f whole t
-    continues_as t l e =
-        let n : on.fuel ≡ suc (on.fuel - 1) = omega (arith, on.enough) in
-        record {
-          fuel = on.fuel;
-          enough = rw l on.enough;
-          goes = ap (λ (m : ℕ). run f m t) n ∙ run_step f (on.fuel - 1) t (rw l more) ∙ next (step f t) e;
-        }
+    pub goes_as : (t : State) → t.left ≡ s.left → step f t ≡ step f s → run f n t ≡ whole
+    goes_as t l e = ap (λ (m : ℕ). run f m t) before ∙ run_step f (n - 1) t (rw l more) ∙ next (step f t) e
 
     -- the next order's ending e and state t
     module _ (e : Ending) (t : State) (is : end_with e t ≡ step f s) where
-      pub continues-refused : {r : Refusal} → e ≡ Ending.refused r → then_run ended (end_with e t) ≡ whole
+      pub goes_refused : {r : Refusal} → e ≡ Ending.refused r → Run.refused r t ≡ whole
       unfolding then_run end_with
-      continues-refused {r} p = rw p (ap (λ (x : Ending). then_run (run f (on.fuel - 1)) (end_with x t)) (sym p) ∙ next (end_with e t) is)
+      goes_refused p = ap (λ (x : Ending). then_run (run f (n - 1)) (end_with x t)) (sym p) ∙ next (end_with e t) is
 
-      pub continues_on : e ≡ complete → length t.left < length s.left → Continues f whole t
+      pub goes_on : e ≡ complete → run f (n - 1) t ≡ whole
       unfolding then_run end_with
-      continues_on p less =
-          record {
-            fuel = on.fuel - 1;
-            enough = omega (arith, on.enough);
-            goes = ap (λ (x : Ending). then_run (run f (on.fuel - 1)) (end_with x t)) (sym p) ∙ next (end_with e t) is;
-          }
+      goes_on p = ap (λ (x : Ending). then_run (run f (n - 1)) (end_with x t)) (sym p) ∙ next (end_with e t) is
+
+module _ {f : Frame} {whole : Run} {s : State} (on : Continues f whole s) where
+  pub continues_end : s.left ≡ [] → ended s ≡ whole
+  continues_end = goes_end f on.fuel s on.goes
+
+  module _ (more : 0 < length s.left) (e : Ending) (t : State) (is : end_with e t ≡ step f s) where
+    some : 0 < on.fuel
+    some = omega (arith, on.enough)
+
+    pub continues-refused : {r : Refusal} → e ≡ Ending.refused r → then_run ended (end_with e t) ≡ whole
+    unfolding then_run end_with
+    continues-refused p = rw p (goes_refused f on.fuel s on.goes more some e t is p)
+
+    pub continues_on : e ≡ complete → length t.left < length s.left → Continues f whole t
+    continues_on p less =
+        record {
+          fuel = on.fuel - 1;
+          enough = omega (arith, on.enough);
+          goes = goes_on f on.fuel s on.goes more some e t is p;
+        }
 
 -- ---- a run taken up again
 
@@ -184,23 +200,11 @@ NotPaused (ended s) = Unit {0}
 NotPaused (paused s) = ⊥
 NotPaused (refused r s) = Unit {0}
 
-at_end_not_paused : (l : List ℕ) (s : State) (x : Run) → (0 < length l → NotPaused x) → NotPaused (at_end l (ended s) x)
-unfolding at_end
-at_end_not_paused [] s x go = tt
-at_end_not_paused (b ∷ l) s x go = go (omega arith)
-
-then_not_paused : (go : State → Run) (e : Ending) (s : State) → NotPaused (go s) → NotPaused (then_run go (end_with e s))
-unfolding then_run end_with
-then_not_paused go complete s h = h
-then_not_paused go (Ending.refused r) s h = tt
-
 pub run_not_paused : (f : Frame) (n : ℕ) (s : State) → length s.left ≤ n → NotPaused (run f n s)
-unfolding run plan_step
-run_not_paused f zero s h = at_end_not_paused s.left s (paused s) (λ more. absurd (omega arith))
-run_not_paused f (suc n) s h =
-    at_end_not_paused s.left s _
-    (λ more. rw step_planned (then_not_paused (run f n) _ _ (run_not_paused f n _ (omega (arith, step_shortens f s more)))))
+run_not_paused f =
+    by_orders f (λ n s x. length s.left ≤ n → NotPaused x) (λ n s h. tt) (λ s more h. absurd (omega arith)) (λ n s r more e h. tt)
+    (λ n s x more e go h. go (omega (arith, step_shortens f s more)))
 
-pub never_paused : (f : Frame) (stream : List ℕ) (s : State) → decode f stream ≡ paused s → ⊥
+pub never_paused : (f : Frame) (stream : List ℕ) → NotPaused (decode f stream)
 unfolding decode start
-never_paused f stream s e = subst (λ (x : Run). NotPaused x) e (run_not_paused f (length stream) (start f stream) (le_refl (length stream)))
+never_paused f stream = run_not_paused f (length stream) (start f stream) (le_refl (length stream))

@@ -1,6 +1,6 @@
 -- Decoding that stops after some orders and goes on from a state by value. The states of Decode.antt hold the bytes left and the
 -- pixels painted; a state by value has places in the stream and in the target, and stands for one of them where both are given.
-use Rattle.std.specs.Prelude.{List, Bool, true, false, ℕ, ◌-◌, ltb, length, get_or, drop}
+use Rattle.std.specs.Prelude.{List, Option, None, Some, Bool, true, false, ℕ, ◌-◌, ltb, length, get_or, drop}
 use Rattle.base.specs.Picks.{pick}
 use Rattle.picture.specs.Pixels.{Pixel, pixels_of}
 use Rattle.picture.specs.Sizes.{refusal, Frame, depth_of, Checked, accepted, checked, with_space}
@@ -59,22 +59,22 @@ with_state size s (accepted f k) =
 
 -- ---- some orders
 
--- what a call gives: the result, with all pixels painted by then, and the state to go on from. A paused one has no refusal and no format
+-- what a call gives: the result, with all pixels painted by then, and the state to go on from where it is paused. A paused one has no
+-- refusal and no format
 pub record Part : Type 0 where
   pub result : Result
-  pub state : Saved
+  pub state : Option Saved
 
--- where it is paused, it goes on from the state reached; else from the one that was given
-unfoldable pub goes_on : ℕ → Saved → Run → Saved
-goes_on size s (ended t) = s
-goes_on size s (paused t) = saved_of size t
-goes_on size s (refused r t) = s
+unfoldable pub paused_in : ℕ → Run → Option Saved
+paused_in size (ended t) = None
+paused_in size (paused t) = Some (saved_of size t)
+paused_in size (refused r t) = None
 
 unfoldable pub part_of : List ℕ → List ℕ → Saved → ℕ → Checked → Part
-part_of stream target s n (Checked.refused r) = record { result = of_checked stream (Checked.refused r); state = s }
+part_of stream target s n (Checked.refused r) = record { result = of_checked stream (Checked.refused r); state = None }
 part_of stream target s n (accepted f k) =
     let r = run f n (restored f stream target s) in
-    record { result = of_run f k r; state = goes_on (length stream) s r }
+    record { result = of_run f k r; state = paused_in (length stream) r }
 
 -- the definition: at most n orders from the state s on, in a target that holds `target`; refusal 15 comes after 1 to 4
 unfoldable pub decode_some : List ℕ → ℕ → ℕ → ℕ → List ℕ → Saved → ℕ → Part

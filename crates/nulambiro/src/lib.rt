@@ -11,6 +11,7 @@ ghost use Rattle.nulambiro.specs.Numbers.{numbers, target};
 
 pub mod colors;
 pub mod encoder;
+pub mod pauses;
 pub mod records;
 
 use picture::Numbers;
@@ -22,22 +23,29 @@ pub(crate) fn refusal_numbers(n: Numbers) -> [u64; 3]
     [n.refusal as u64, n.first as u64, n.second as u64]
 }
 
-// A report in numbers.
-pub(crate) fn report_numbers(report: rle::Report) -> [u64; 8]
-    ensures { result ≡ numbers (summary_in report) }
+// What work on a picture came to, with the pixels painted and the orders completed, in numbers.
+pub(crate) fn counted_numbers(n: Numbers, pixels: usize, orders: usize) -> [u64; 8]
+    ensures { result ≡ n.format ∷ n.refusal ∷ n.first ∷ n.second ∷ pixels ∷ orders ∷ 0 ∷ 0 ∷ [] }
 {
-    let n = Numbers::from(report.outcome);
     let [refusal, first, second] = refusal_numbers(n);
     [
         n.format as u64,
         refusal,
         first,
         second,
-        report.pixels as u64,
-        report.orders as u64,
+        pixels as u64,
+        orders as u64,
         0,
         0,
     ]
+}
+
+// A report in numbers.
+#[tactic(auto, unfolding(crate::specs::Numbers::numbers))]
+pub(crate) fn report_numbers(report: rle::Report) -> [u64; 8]
+    ensures { result ≡ numbers (summary_in report) }
+{
+    counted_numbers(Numbers::from(report.outcome), report.pixels, report.orders)
 }
 
 #[unsafe(no_mangle)]

@@ -11,8 +11,10 @@ pub mod FirstRow
 pub mod Stream
 pub mod Walks
 pub mod Calls
+pub mod Pausing
 pub mod Counting
 pub mod Finding
 pub mod Theorems
+pub mod Stopping
 pub mod Writers
 pub mod Parts

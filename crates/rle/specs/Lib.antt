@@ -1,5 +1,6 @@
 pub mod Report
 pub mod Guarantees
+pub mod Pauses
 pub mod Stored
 pub mod Kinds
 pub mod Records
@@ -13,3 +14,5 @@ pub mod Operands
 pub mod Walks
 pub mod Walking
 pub mod Reporting
+pub mod Pausing
+pub mod Stopping

@@ -1,9 +1,8 @@
 -- What the orders and the loop over them promise: the definition's steps, and nothing past the painted pixels changed.
-use Rattle.std.specs.Prelude.{◌≡◌, List, Ok, Err, ℕ, ◌*◌, ◌≤◌, ◌<◌, length, drop}
+use Rattle.std.specs.Prelude.{◌≡◌, List, Ok, Err, ℕ, ◌-◌, ◌*◌, ◌≤◌, ◌<◌, length, drop}
 use Rattle.picture.specs.Sizes.{Frame}
-use Rattle.definition.specs.Decode.{State, Step, Run, ended, then_run, decode}
+use Rattle.definition.specs.Decode.{State, Step, Run, ended, then_run, run}
 use Rattle.definition.specs.Plan.{end_with}
-use Rattle.definition.specs.Runs.{Continues}
 use Rattle.rle.specs.declared.state.State.{State as CodeState}
 use Rattle.rle.specs.declared.state.Stepped.{Stepped}
 use Rattle.rle.specs.Planning.{CodeEnding, ending_in}
@@ -24,32 +23,39 @@ pub record Executes (f : Frame) (src before after : List ℕ) (s : CodeState) (r
   pub mark : r.state.walk.first_row ≡ s.walk.first_row
   pub invariant : Invariant f r.state
 
--- ---- the whole stream
+-- ---- runs of orders
 
--- the definition's run that the last order's ending and state are
+-- the definition's run that the last order's ending and state are, where all orders were to be carried out
 abbrev pub run_in : CodeEnding → State → Run
 run_in e s = then_run ended (step_in e s)
 
--- what holds between two orders
-pub record BetweenOrders (f : Frame) (src before after : List ℕ) (s : CodeState) : Type 0 where
+-- where some were, the run ends or pauses in the state
+abbrev pub stopped_in : Frame → CodeEnding → State → Run
+stopped_in f e s = then_run (run f 0) (step_in e s)
+
+-- orders were carried out, and gave the run `whole`
+pub record Decodes (f : Frame) (src before after : List ℕ) (whole : Run) (r : Stepped) : Type 0 where
+  pub is : stopped_in f r.ending (state_of f src after r.state) ≡ whole
+  pub rest : drop (r.state.walk.pixels * f.bytes) after ≡ drop (r.state.walk.pixels * f.bytes) before
+  pub place : r.state.walk.pos ≤ length src
+  pub invariant : Invariant f r.state
+
+-- what holds between two orders: at most n further ones give the run `whole`
+pub record BetweenOrders (f : Frame) (src before after : List ℕ) (whole : Run) (n : ℕ) (s : CodeState) : Type 0 where
   pub invariant : Invariant f s
   pub place : s.walk.pos ≤ length src
   pub same : length after ≡ length before
   pub rest : drop (s.walk.pixels * f.bytes) after ≡ drop (s.walk.pixels * f.bytes) before
-  pub continues : Continues f (decode f src) (state_of f src after s)
+  pub goes : run f n (state_of f src after s) ≡ whole
 
--- the whole stream is decoded
-pub record Decodes (f : Frame) (src before after : List ℕ) (r : Stepped) : Type 0 where
-  pub is : run_in r.ending (state_of f src after r.state) ≡ decode f src
-  pub rest : drop (r.state.walk.pixels * f.bytes) after ≡ drop (r.state.walk.pixels * f.bytes) before
-  pub invariant : Invariant f r.state
+-- orders were carried out from the state s on, n at most: one at least is completed, or the stream is refused
+abbrev pub decoded_on : CodeEnding → Frame → List ℕ → List ℕ → List ℕ → Run → ℕ → CodeState → Stepped → Type 0
+decoded_on (Ok u) f src before after whole n s r =
+    BetweenOrders f src before after whole (n - (r.state.orders - s.orders)) r.state
+    × (s.orders < r.state.orders)
+    × (r.state.orders - s.orders ≤ n)
+decoded_on (Err e) f src before after whole n s r = Decodes f src before after whole r
 
--- the stream is decoded from the state s until `limit` pixels are painted: below the limit only the stream's end or its refusal ends it
-abbrev pub decoded_to : CodeEnding → ℕ → Frame → List ℕ → List ℕ → List ℕ → Stepped → Type 0
-decoded_to (Ok u) limit f src before after r =
-    BetweenOrders f src before after r.state × (r.state.walk.pixels < limit → length src ≤ r.state.walk.pos)
-decoded_to (Err e) limit f src before after r = Decodes f src before after r
-
-pub record DecodesTo (limit : ℕ) (f : Frame) (src before after : List ℕ) (s : CodeState) (r : Stepped) : Type 0 where
+pub record DecodesOn (f : Frame) (src before after : List ℕ) (n : ℕ) (s : CodeState) (r : Stepped) : Type 0 where
   pub grows : s.walk.pixels ≤ r.state.walk.pixels
-  pub decoded : decoded_to r.ending limit f src before after r
+  pub decoded : decoded_on r.ending f src before after (run f n (state_of f src before s)) n s r

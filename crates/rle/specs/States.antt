@@ -17,6 +17,7 @@ use Rattle.rle.specs.declared.plan.Plan.{Plan as CodePlan}
 use Rattle.rle.specs.declared.frame.Frame.{Frame as CodeFrame}
 use Rattle.rle.specs.declared.state.State.{State as CodeState}
 use Rattle.rle.specs.declared.state.Stepped.{Stepped}
+use Rattle.decoder_state.specs.declared.State.{State as KeptState}
 use Rattle.rle.specs.Planning.{ending_in}
 
 abbrev pub frame_of : CodeFrame → Frame
@@ -87,6 +88,26 @@ pub record IsSpan (f : CodeFrame) (s : CodeState) (n : ℕ) (t : Span) : Type 0 
   pub pixels : t.pixels ≡ n
 
 -- ---- the states that the functions here answer, exactly
+
+-- the state that a caller keeps, and back
+abbrev pub state_from : KeptState → CodeState
+state_from s =
+    record {
+      foreground = s.foreground;
+      walk = record { pos = s.pos; insert = s.insert; pixels = s.pixels; first_row = s.first_row };
+      orders = s.orders;
+    }
+
+abbrev pub kept_state : CodeState → KeptState
+kept_state s =
+    record {
+      foreground = s.foreground;
+      pos = s.walk.pos;
+      insert = s.walk.insert;
+      pixels = s.walk.pixels;
+      first_row = s.walk.first_row;
+      orders = s.orders;
+    }
 
 abbrev pub with_fg : CodeState → Pixel → CodeState
 with_fg s p =

@@ -23,7 +23,7 @@ pub(crate) struct Frame {
 
 impl Frame {
     ghost use Rattle.std.specs.Prelude.{◌-◌};
-    ghost use Rattle.picture.specs.Sizes.{checked};
+    ghost use Rattle.picture.specs.Sizes.{checked, with_space};
     ghost use Rattle.rle.specs.States.{checked_in};
 
     // The frame of a picture and its format, or the refusal of its depth or its sizes, which come one by one, as to `decompress`. The format is
@@ -43,6 +43,23 @@ impl Frame {
             width,
             total: width * height,
         };
+        Ok((frame, format))
+    }
+
+    // The same, and the refusal of a target of `given` bytes that is too short.
+    pub(crate) fn with_space(
+        given: usize,
+        width: usize,
+        height: usize,
+        bpp: usize,
+    ) -> Result<(Self, RlePixelFormat), RleError>
+        ensures { checked_in result ≡ with_space given (checked bpp width height) }
+    {
+        let (frame, format) = Frame::new(width, height, bpp)?;
+        let needed = frame.total * frame.depth.bytes;
+        if given < needed {
+            return Err(RleError::BufferTooShort { needed, given });
+        }
         Ok((frame, format))
     }
 

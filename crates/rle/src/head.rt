@@ -5,7 +5,7 @@ ghost use Rattle.definition.specs.Codes.{kind_number};
 ghost use Rattle.rle.specs.Kinds.{number_of};
 ghost use Rattle.rle.specs.Heads.{ReadsLength, ReadsHead};
 
-use crate::header::Headers;
+use crate::header::{header_kind, own_length};
 use crate::kind::Kind;
 use crate::length::Length;
 use crate::reader::Reader;
@@ -79,16 +79,11 @@ impl<'a> Reader<'a> {
     }
 
     // The run length of the order with this header, of this kind: the header stands before the reader.
-    pub(crate) fn extract_run_length(
-        self,
-        headers: &Headers,
-        header: u8,
-        kind: Kind,
-    ) -> Result<RunLength, NoLength>
+    pub(crate) fn extract_run_length(self, header: u8, kind: Kind) -> Result<RunLength, NoLength>
         requires { number_of kind ≡ kind_number header }
         ensures { ReadsLength self.entry.at.inner.now self.entry.at.pos (place_of (row_of header) header) result (length_of (row_of header) header (drop self.entry.at.pos self.entry.at.inner.now)) }
     {
-        match headers.own_length(header) {
+        match own_length(header) {
             Some(own) => Ok(RunLength {
                 pixels: own.pixels,
                 place: kind.own_place(),
@@ -101,11 +96,7 @@ impl<'a> Reader<'a> {
 }
 
 // The start of the order at src[pos], or none at the stream's end.
-pub(crate) fn read_head(
-    src: &[u8],
-    headers: &Headers,
-    pos: usize,
-) -> Result<Option<OrderHead>, NoLength>
+pub(crate) fn read_head(src: &[u8], pos: usize) -> Result<Option<OrderHead>, NoLength>
     ensures { ReadsHead src.now pos result }
 {
     let Ok(byte) = u8_from(src, pos) else {
@@ -113,11 +104,11 @@ pub(crate) fn read_head(
     };
     // The read gives a byte as a number.
     let header = byte as u8;
-    let kind = headers.kind(header);
+    let kind = header_kind(header);
     let behind = Reader {
         at: Buf::new(src, pos + 1),
     };
-    let length = behind.extract_run_length(headers, header, kind)?;
+    let length = behind.extract_run_length(header, kind)?;
     Ok(Some(OrderHead {
         header,
         place: length.place,

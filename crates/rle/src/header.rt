@@ -1,14 +1,14 @@
-// An order's header byte: its kind and its own run length, each by one constant table.
+// An order's header byte: its kind and its own run length, each by one table. They are statics: as constants they would be built anew at
+// every lookup.
 ghost use Rattle.std.specs.Prelude.{◌≡◌, MatchOption};
-ghost use Rattle.definition.specs.Codes as codes;
 ghost use Rattle.definition.specs.Codes.{kind_number, length_number};
-ghost use Rattle.rle.specs.Kinds.{number_of, numbers_in};
+ghost use Rattle.rle.specs.Kinds.{number_of};
 
 use crate::kind::Kind;
 use crate::length::Length;
 
 // The kind of each header byte: a row for each upper half. Below F0 a row has one kind, and the lower half is a run length.
-const KINDS: [[Kind; 16]; 16] = [
+static KINDS: [[Kind; 16]; 16] = [
     [Kind::BgRun; 16],
     [Kind::BgRun; 16],
     [Kind::FgRun; 16],
@@ -44,9 +44,8 @@ const KINDS: [[Kind; 16]; 16] = [
     ],
 ];
 
-// The run length that each header byte has itself, 0 where it stands in the bytes after it: as in the definition's table, with which
-// `lengths_listed` compares it.
-const LENGTHS: [u8; 256] = [
+// The run length that each header byte has itself, 0 where it stands in the bytes after it: as in the definition's table.
+static LENGTHS: [u8; 256] = [
     0, 1, 2, 3, 4, 5, 6, 7, 8, 9, 10, 11, 12, 13, 14, 15, 16, 17, 18, 19, 20, 21, 22, 23, 24, 25,
     26, 27, 28, 29, 30, 31, 0, 1, 2, 3, 4, 5, 6, 7, 8, 9, 10, 11, 12, 13, 14, 15, 16, 17, 18, 19,
     20, 21, 22, 23, 24, 25, 26, 27, 28, 29, 30, 31, 0, 8, 16, 24, 32, 40, 48, 56, 64, 72, 80, 88,
@@ -59,39 +58,21 @@ const LENGTHS: [u8; 256] = [
     6, 7, 8, 9, 10, 11, 12, 13, 14, 15, 0, 0, 0, 0, 0, 1, 0, 0, 0, 8, 8, 1, 1, 1, 1, 1,
 ];
 
-// Both tables, to be made once a call and lent from then on: as constants they would be built anew at every lookup.
-#[derive(Clone, Copy)]
-pub(crate) struct Headers {
-    kinds: [[Kind; 16]; 16],
-    lengths: [u8; 256],
-    ghost kinds_listed: { numbers_in kinds ≡ codes.kinds },
-    ghost lengths_listed: { lengths ≡ codes.lengths },
+pub(crate) fn header_kind(header: u8) -> Kind
+    ensures { number_of result ≡ kind_number header }
+{
+    let at = usize::from(header);
+    KINDS[at / 16][at % 16]
 }
 
-impl Headers {
-    pub(crate) fn new() -> Self {
-        Headers {
-            kinds: KINDS,
-            lengths: LENGTHS,
-        }
-    }
-
-    pub(crate) fn kind(&self, header: u8) -> Kind
-        ensures { number_of result ≡ kind_number header }
-    {
-        let at = usize::from(header);
-        self.kinds[at / 16][at % 16]
-    }
-
-    // The run length that a header has itself, if it has one.
-    pub(crate) fn own_length(&self, header: u8) -> Option<Length>
-        ensures { MatchOption result (length_number header ≡ 0) (λ l. l.pixels ≡ length_number header) }
-    {
-        match self.lengths[usize::from(header)] {
-            0 => None,
-            pixels => Some(Length {
-                pixels: usize::from(pixels),
-            }),
-        }
+// The run length that a header has itself, if it has one.
+pub(crate) fn own_length(header: u8) -> Option<Length>
+    ensures { MatchOption result (length_number header ≡ 0) (λ l. l.pixels ≡ length_number header) }
+{
+    match LENGTHS[usize::from(header)] {
+        0 => None,
+        pixels => Some(Length {
+            pixels: usize::from(pixels),
+        }),
     }
 }

@@ -1,6 +1,7 @@
 // Decoder of interleaved RLE bitmaps (MS-RDPBCGR 2.2.9.1.1.3.1.2.4 and 3.1.9), a port of IronRDP's rle.rs.
 //
-// What a stream means is defined in the crate `definition`; what `decompress` promises of it, in specs/Report.antt.
+// What a stream means is defined in the crate `definition`; what `decompress` promises of it, in specs/Report.antt, and what
+// `decompress_some` promises, in specs/Pauses.antt.
 #![tactic(auto)]
 
 ghost use Rattle.std.specs.Prelude.{◌≡◌};
@@ -18,6 +19,7 @@ pub mod kind;
 pub(crate) mod length;
 pub(crate) mod order;
 pub(crate) mod paint;
+pub mod pauses;
 pub(crate) mod pixel;
 pub mod plain;
 pub(crate) mod plan;
@@ -30,8 +32,10 @@ pub(crate) mod state;
 pub mod walk;
 
 use decode::{Fast, decompress_by};
+pub use decoder_state::State;
 use frame::Frame;
 pub use kind::Kind;
+pub use pauses::{Progress, ResumeError, SomeReport, decompress_some};
 pub use record::{OrderRecord, Place};
 pub use report::Report;
 pub use walk::{Found, Walk};

@@ -1,8 +1,8 @@
 // The decoder's state, and what its orders paint with.
-ghost use Rattle.std.specs.Prelude.{◌≡◌, ◌+◌, ◌≤◌};
+ghost use Rattle.std.specs.Prelude.{◌≡◌, true, ◌+◌, ◌≤◌, ◌<◌};
 ghost use Rattle.definition.specs.Plan.{leaves_insert};
 ghost use Rattle.rle.specs.Kinds.{kind_in};
-ghost use Rattle.rle.specs.States.{fg_of, bg_of, insert_of, IsSpan, start_of, at_pos, completed_in, refused_in, first_row_ended, Fits, finished_of};
+ghost use Rattle.rle.specs.States.{fg_of, bg_of, insert_of, IsSpan, start_of, state_from, kept_state, at_pos, completed_in, refused_in, first_row_ended, Fits, finished_of};
 
 use crate::frame::Frame;
 use crate::kind::Kind;
@@ -18,6 +18,41 @@ pub(crate) struct State {
     pub(crate) foreground: [u8; 3],
     pub(crate) walk: Walk,
     pub(crate) orders: usize,
+}
+
+// The state that a caller keeps, and back.
+impl From<decoder_state::State> for State {
+    ghost from_gives = { λ s r. r ≡ state_from s };
+
+    fn from(s: decoder_state::State) -> State {
+        let [low, middle, high] = s.foreground;
+        State {
+            foreground: [low, middle, high],
+            walk: Walk {
+                pos: s.pos,
+                insert: s.insert,
+                pixels: s.pixels,
+                first_row: s.first_row,
+            },
+            orders: s.orders,
+        }
+    }
+}
+
+impl From<State> for decoder_state::State {
+    ghost from_gives = { λ s r. r ≡ kept_state s };
+
+    fn from(s: State) -> decoder_state::State {
+        let foreground = s.foreground;
+        decoder_state::State {
+            foreground,
+            pos: s.walk.pos,
+            insert: s.walk.insert,
+            pixels: s.walk.pixels,
+            first_row: s.walk.first_row,
+            orders: s.orders,
+        }
+    }
 }
 
 // How an order, or a whole stream, ends, and in which state: a refusal has one too, with the pixels that were painted by then. As a Result
@@ -76,6 +111,22 @@ impl State {
         let walk = self.walk.end_first_row(f.width);
         self.walk = walk;
         self
+    }
+
+    // The pixels to stop at so that no more than n orders are completed, each of which paints one at least; in the first row, its end at most.
+    // No state has more than the picture's, so one more is never reached.
+    pub(crate) fn limit(self, f: Frame, n: usize) -> usize
+        requires { self.walk.pixels ≤ f.total }
+        ensures few { result ≤ self.walk.pixels + n }
+        ensures row { self.walk.first_row ≡ true → result ≤ f.width }
+        ensures further { 0 < n → (self.walk.first_row ≡ true → self.walk.pixels < f.width) → self.walk.pixels < result }
+    {
+        let limit = self.walk.pixels + n.min(f.total + 1 - self.walk.pixels);
+        if self.walk.first_row {
+            limit.min(f.width)
+        } else {
+            limit
+        }
     }
 
     // The state behind an order of this kind that is carried out as planned.

@@ -11,7 +11,6 @@ ghost use Rattle.rle.specs.Walking.{WalksOrders, row_ended, stopped_at, found_by
 
 use crate::frame::Frame;
 use crate::head::read_head;
-use crate::header::Headers;
 use crate::record::OrderRecord;
 use crate::report::Report;
 use picture::RleError;
@@ -103,11 +102,10 @@ pub(crate) fn walk_orders(src: &[u8], f: Frame, from: Walk, n: usize) -> Walked
     requires { from.pixels ≤ f.total }
     ensures { WalksOrders (frame_of f) src.now from n result }
 {
-    let headers = Headers::new();
     let mut walk = from;
     let mut orders = 0;
     loop {
-        let o = match read_head(src, &headers, walk.pos) {
+        let o = match read_head(src, walk.pos) {
             Ok(Some(o)) => o,
             Ok(None) => return walk.stopped(Ok(None), orders),
             Err(r) => return walk.stopped(Err(r.error), orders),

@@ -2,7 +2,6 @@
 use crate::decode::Decoder;
 use crate::frame::Frame;
 use crate::head::read_head;
-use crate::header::Headers;
 use crate::order::Order;
 use crate::plain::order::order;
 use crate::state::{State, Stepped};
@@ -12,14 +11,13 @@ pub(crate) struct Plain;
 
 impl Decoder for Plain {
     fn decode(src: &[u8], dst: &mut [u8], f: Frame) -> Stepped {
-        let headers = Headers::new();
         let mut s = State::start(f);
         loop {
             let mut t = s;
             // The first row ends for good once it is painted, and a pending insert is dropped there.
             t.walk.first_row &= s.walk.pixels < f.width;
             t.walk.insert &= t.walk.first_row == s.walk.first_row;
-            match read_head(src, &headers, s.walk.pos) {
+            match read_head(src, s.walk.pos) {
                 Ok(None) => {
                     return Stepped {
                         ending: Ok(()),

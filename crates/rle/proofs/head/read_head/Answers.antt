@@ -28,7 +28,7 @@ invariant_of-behind c =
 pub returns : goal.returns
 returns c =
     let is = u8_is _ _ _ _ c.u8_from.ensures c.in-Ok.is in
-    head_read c.args.src.now c.args.pos _ _ is.1 c.kind-kind.ensures c.in_ok-length.length _ _ (omega (arith, is.1, c.type_inv.src c.args.pos))
+    head_read c.args.src.now c.args.pos _ _ is.1 c.header_kind-kind.ensures c.in_ok-length.length _ _ (omega (arith, is.1, c.type_inv.src c.args.pos))
     (rw (c.new.ensures.0, c.new.ensures.1) at c.in_ok-length.ensures)
 
 pub returns-in_err-length : goal.returns-in_err-length
@@ -36,4 +36,4 @@ returns-in_err-length c =
     let is = u8_is _ _ _ _ c.u8_from.ensures c.in-Ok.is in
     let e = err_from_is_err_and c.from_residual.result c.from_residual.ensures.1 in
     rw (e.1, e.2)
-    (head-refused c.args.src.now c.args.pos _ _ is.1 c.kind-kind.ensures _ (rw (c.new.ensures.0, c.new.ensures.1) at c.in_err-length.ensures))
+    (head-refused c.args.src.now c.args.pos _ _ is.1 c.header_kind-kind.ensures _ (rw (c.new.ensures.0, c.new.ensures.1) at c.in_err-length.ensures))
