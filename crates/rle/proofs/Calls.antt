@@ -23,19 +23,19 @@ use Rattle.rle.specs.Report.{summary_in, Agrees, Decompresses}
 use Rattle.rle.specs.Planning.{CodeEnding}
 use Rattle.rle.specs.States.{frame_of, state_of, Framed}
 use Rattle.rle.specs.Orders.{Decodes, run_in, stopped_in}
-use Rattle.rle.specs.Reporting.{refusal_after, format_after, summary_after, not_decoded, report_in}
+use Rattle.rle.specs.Reporting.{refusal_after, format_after, summary_after, not_decoded, or_by}
 use Rattle.picture.proofs.Pixels.{length-pixels_of, bytes-pixels}
-use Rattle.picture.proofs.Sizes.{sized}
+use Rattle.picture.proofs.Sizes.{Sized, sized}
 use Rattle.rle.proofs.Stream.{framed}
 use Rattle.definition.proofs.Bounds.{Bytes, last, start_bounds}
 use Rattle.definition.proofs.Runs.{NotPaused, never_paused}
 
 -- ---- refusals before the stream
 
--- what `unwrap_or_else` makes of a report or a refusal
-pub unwrapped : (q : Result Report RleError) (r : Report) → MatchResult q (λ x. r ≡ x) (λ e. r ≡ not_decoded e) → r ≡ report_in q
-unwrapped (Ok x) r h = h
-unwrapped (Err e) r h = h
+-- what `unwrap_or_else` makes of an answer or a refusal
+pub unwrapped : {A E : Type 0} (f : E → A) (q : Result A E) (r : A) → MatchResult q (λ x. r ≡ x) (λ e. r ≡ f e) → r ≡ or_by f q
+unwrapped f (Ok x) r h = h
+unwrapped f (Err e) r h = h
 
 refused-is : (src before : List ℕ) (total : ℕ) {c : Checked} (e : RleError) → c ≡ refused (refusal_of e)
     → Agrees src before before total (not_decoded e) (of_checked src c)
@@ -72,14 +72,33 @@ unfolding of_run then_run end_with
 result-is f k (Ok u) s = refl
 result-is f k (Err e) s = refl
 
+-- and its last state's pixels, of the frame's bytes each
+module _ (f : Frame) (k : ℕ) where
+  pub result_bytes : (x : Run) → (of_run f k x).bytes ≡ f.bytes
+  unfolding of_run result_of
+  result_bytes (ended s) = refl
+  result_bytes (paused s) = refl
+  result_bytes (Run.refused r s) = refl
+
+  pub result_painted : (x : Run) → (of_run f k x).painted ≡ (last x).painted
+  unfolding of_run result_of
+  result_painted (ended s) = refl
+  result_painted (paused s) = refl
+  result_painted (Run.refused r s) = refl
+
 last_at_end : (l : List ℕ) (s : State) → last (at_end l (ended s) (paused s)) ≡ s
 unfolding at_end
 last_at_end [] s = refl
 last_at_end (x ∷ xs) s = refl
 
+-- no orders leave the state as it is
+pub no_orders : (f : Frame) (s : State) → last (run f 0 s) ≡ s
+unfolding run
+no_orders f s = last_at_end s.left s
+
 last_is : (f : Frame) (a : CodeEnding) (s : State) → last (stopped_in f a s) ≡ s
-unfolding then_run end_with run
-last_is f (Ok u) s = last_at_end s.left s
+unfolding then_run end_with
+last_is f (Ok u) s = no_orders f s
 last_is f (Err e) s = refl
 
 -- where the run is not paused, all orders were carried out
@@ -143,14 +162,19 @@ module _ (f : Frame) (k : ℕ) (src before after : List ℕ) (s : Stepped) (fram
         bounded = rw pixels bounded-is;
       })
 
+-- an accepted picture's frame is of its depth and sizes
+pub accepted_frame : (bpp w h : ℕ) {f : Frame} {k : ℕ} → accepted f k ≡ checked bpp w h
+    → Sized bpp w h (f.total * f.bytes)
+    × (f ≡ record { bytes = (depth_of bpp).bytes; white = (depth_of bpp).white; black = (depth_of bpp).black; width = w; total = w * h })
+unfolding size_of accept
+accepted_frame bpp w h {f} {k} is =
+    let z = sized bpp w h (f.total * f.bytes) (ap size_of is) in
+    let a : accepted f k ≡ accept (depth_of bpp) w h = is ∙ z.checks in
+    (z, cc)
+
 module _ (bpp w h : ℕ) (f : CodeFrame) {format : ℕ} where
   pub total-is : accepted (frame_of f) format ≡ checked bpp w h → f.total ≡ w * h
-  unfolding size_of accept
-  total-is is =
-      let k = sized bpp w h (f.total * f.depth.bytes) (ap size_of is) in
-      let a : accepted (frame_of f) format ≡ accept (depth_of bpp) w h = is ∙ k.checks in
-      let g : frame_of f ≡ record { bytes = (depth_of bpp).bytes; white = (depth_of bpp).white; black = (depth_of bpp).black; width = w; total = w * h } = cc in
-      ap (λ (x : Frame). x.total) g
+  total-is is = ap (λ (x : Frame). x.total) (accepted_frame bpp w h is).1
 
   pub reports_decoded : (src before after : List ℕ) → accepted (frame_of f) format ≡ with_space (length before) (checked bpp w h) → (s : Stepped)
       → length after ≡ length before → Bytes src → Decodes (frame_of f) src before after (decode (frame_of f) src) s

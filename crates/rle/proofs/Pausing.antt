@@ -9,14 +9,14 @@ use lib.Dec.{ltb}
 use lib.ListN.{length, take, drop, take-append-drop, length-append, length-drop, drop_of_length-le}
 use lib.Seq.{length-take-le, take-append-le, take-take}
 use borrow.Author.Tests.{le-ltb, ltb-true, ltb-false}
-use Rattle.std.specs.Prelude.{Result, Ok, Err, MatchResult}
+use Rattle.std.specs.Prelude.{Ok, Err}
 use Rattle.base.specs.Picks.{pick}
 use Rattle.picture.specs.declared.outcome.RlePixelFormat.{RlePixelFormat}
 use Rattle.picture.specs.Pixels.{bytes_of, pixels_of}
 use Rattle.picture.specs.Sizes.{Frame, Checked, accepted, checked, with_space}
 use Rattle.picture.specs.Outcomes.{format_of}
 use Rattle.picture.proofs.Pixels.{length-pixels_of, bytes-pixels, bytes_of-append}
-use Rattle.definition.specs.Decode.{State, Run, ended, paused, refused, then_run, run, result_of, of_run, of_checked, summary_of}
+use Rattle.definition.specs.Decode.{State, Run, then_run, run, result_of, of_run, of_checked, summary_of}
 use Rattle.definition.specs.Pauses.{Saved, restored, saved_of, bad_state, with_state, paused_in, part_of, decode_some}
 use Rattle.definition.specs.Plan.{end_with}
 use Rattle.definition.proofs.Bounds.{last}
@@ -31,10 +31,10 @@ use Rattle.rle.specs.declared.pauses.ResumeError.{ResumeError}
 use Rattle.rle.specs.declared.pauses.SomeReport.{SomeReport}
 use Rattle.rle.specs.Orders.{Decodes, stopped_in}
 use Rattle.rle.specs.Pauses.{resume_refusal, state_some, summary_some, resumes_run, DecompressesSome}
-use Rattle.rle.specs.Pausing.{some_report_of, not_resumed, some_report_in}
+use Rattle.rle.specs.Pausing.{some_report_of, not_resumed}
 use Rattle.rle.specs.Planning.{CodeEnding}
 use Rattle.rle.specs.States.{frame_of, state_of, state_from, kept_state, row_above, Invariant}
-use Rattle.rle.proofs.Calls.{spaced, total-is, held, length-held, last-state}
+use Rattle.rle.proofs.Calls.{result_bytes, result_painted, spaced, total-is, held, length-held, last-state}
 use Rattle.rle.proofs.Stream.{framed}
 
 -- ---- good states
@@ -48,7 +48,7 @@ good_row true k w e = zero-le
 good_row false k w e = ltb-false k w e
 
 -- a state between orders passes the tests, and one that passes is good to go on from
-pub invariant-good : (f : Frame) (size : ℕ) (s : CodeState) → Invariant f s → s.walk.pos ≤ size → bad_state size f.total f.width f.bytes (saved_in (kept_state s)) ≡ false
+invariant-good : (f : Frame) (size : ℕ) (s : CodeState) → Invariant f s → s.walk.pos ≤ size → bad_state size f.total f.width f.bytes (saved_in (kept_state s)) ≡ false
 unfolding bad_state
 invariant-good f size s i place =
     rw (le-ltb size s.walk.pos place, le-ltb f.total s.walk.pixels i.within, le-ltb s.walk.pixels s.orders i.counted, row_good s.walk.first_row s.walk.pixels f.width i.row)
@@ -73,10 +73,6 @@ good-invariant f size s three e =
 
 -- ---- refused before the stream
 
-pub resumed : (q : Result SomeReport ResumeError) (r : SomeReport) → MatchResult q (λ x. r ≡ x) (λ e. r ≡ not_resumed e) → r ≡ some_report_in q
-resumed (Ok x) r h = h
-resumed (Err e) r h = h
-
 pub resumes_refused : (src before : List ℕ) (bpp w h n : ℕ) (s : KeptState) (e : ResumeError)
     → Checked.refused (resume_refusal e) ≡ with_state (length src) (saved_in s) (with_space (length before) (checked bpp w h))
     → DecompressesSome src bpp w h s n before before (not_resumed e)
@@ -89,19 +85,6 @@ resumes_refused src before bpp w h n s e p =
     }
 
 -- ---- some orders
-
--- the run's result has its last state's pixels
-painted-is : (f : Frame) (k : ℕ) (x : Run) → (of_run f k x).painted ≡ (last x).painted
-unfolding of_run result_of
-painted-is f k (ended s) = refl
-painted-is f k (paused s) = refl
-painted-is f k (refused r s) = refl
-
-bytes-is : (f : Frame) (k : ℕ) (x : Run) → (of_run f k x).bytes ≡ f.bytes
-unfolding of_run result_of
-bytes-is f k (ended s) = refl
-bytes-is f k (paused s) = refl
-bytes-is f k (refused r s) = refl
 
 -- what the report says of the run x
 record Tells (f : Frame) (k : ℕ) (src after : List ℕ) (r : SomeReport) (x : Run) : Type 0 where
@@ -166,8 +149,8 @@ module _ (src before after : List ℕ) (bpp w h n : ℕ) (s : KeptState) (f : Co
       let told : Tells g (format_of k) src after (some_report_of r (length src) k) (run g n (restored g src before (saved_in s))) =
       subst (λ (x : Run). Tells g (format_of k) src after (some_report_of r (length src) k) x) decodes.is (tells g k src after r.state decodes.invariant decodes.place r.ending) in
       let last-is = last-state g src before after r frame same decodes in
-      let pixels-is = painted-is g (format_of k) (run g n (restored g src before (saved_in s))) ∙ ap (λ (x : State). x.painted) last-is in
-      let depth-is = bytes-is g (format_of k) (run g n (restored g src before (saved_in s))) in
+      let pixels-is = result_painted g (format_of k) (run g n (restored g src before (saved_in s))) ∙ ap (λ (x : State). x.painted) last-is in
+      let depth-is = result_bytes g (format_of k) (run g n (restored g src before (saved_in s))) in
       let length-is = length-pixels_of g.bytes r.state.walk.pixels after in
       record {
         agrees =

@@ -1,7 +1,7 @@
 -- The theorems of specs/Stopping.antt, from the contract of `decompress_some` alone. A reached state stands where its orders lead to from
 -- the stream's start, and so do the painted bytes in its target; a call that goes on from it keeps this. Assumes nothing.
 use mathlib.Core.Path.{◌≡◌, refl, ap, sym, ◌∙◌, subst}
-use mathlib.Core.List.{List, [], ◌∷◌, ◌++◌}
+use mathlib.Core.List.{List, ◌++◌}
 use Prim.Native.Nat.{ℕ, ◌+◌, ◌*◌, ◌≤◌, zero-le}
 use native.Mathlib.Nat.{zero-mul, sub_self}
 use native.Mathlib.Omega.{arith}
@@ -12,11 +12,10 @@ use borrow.Author.Tests.{lt-ltb, le-ltb}
 use Rattle.std.specs.Prelude.{Some, None, Ok, Err}
 use Rattle.base.proofs.Tests.{apart, by_less, by_test}
 use Rattle.picture.specs.Pixels.{bytes_of}
-use Rattle.picture.specs.Sizes.{Refusal, Frame, depth_index, depth_of, Checked, refused, accepted, accept, checked, with_space, size_of}
+use Rattle.picture.specs.Sizes.{Refusal, Frame, depth_index, depth_of, Checked, refused, accepted, accept, checked, with_space}
 use Rattle.picture.proofs.Pixels.{length-pixels_of}
 use Rattle.picture.proofs.Depths.{Good, depth_good}
-use Rattle.picture.proofs.Sizes.{sized}
-use Rattle.definition.specs.Decode.{State, start, Run, ended, paused, at_end, run, decode, Result, result_of, of_run, of_checked, result, result_in, Summary}
+use Rattle.definition.specs.Decode.{State, start, Run, ended, paused, run, decode, Result, result_of, of_run, of_checked, result, result_in, Summary}
 use Rattle.definition.specs.Pauses.{Saved, start_at, restored, saved_of, with_state, Part, paused_in, part_of, decode_some, first_of, first_orders}
 use Rattle.definition.proofs.Bounds.{Bytes, last, start_bounds}
 use Rattle.definition.proofs.Runs.{NotPaused, never_paused}
@@ -30,33 +29,13 @@ use Rattle.rle.specs.declared.pauses.SomeReport.{SomeReport}
 use Rattle.rle.specs.Report.{summary_in, Agrees, Decompresses}
 use Rattle.rle.specs.Guarantees.{HasSpace}
 use Rattle.rle.specs.Pauses.{state_some, summary_some, AgreesSome, resumes_run, DecompressesSome}
+use Rattle.rle.proofs.Calls.{result_bytes, result_painted, no_orders, accepted_frame}
 use Rattle.rle.specs.Stopping.{size_at, PaintedLeft, Reached, at_start, after_pause, GoesOn, from_reached, orders_by, first_by, AtPause, Stopped, SameState, SameStop}
 
 -- ---- orders from the start
 
 abbrev first_run : Frame → List ℕ → ℕ → Run
 first_run f src n = run f n (start f src)
-
-no_orders : (f : Frame) (s : State) → last (run f 0 s) ≡ s
-unfolding run at_end
-no_orders f s = go s.left
-  where
-    go : (l : List ℕ) → last (at_end l (ended s) (paused s)) ≡ s
-    go [] = refl
-    go (x ∷ xs) = refl
-
-module _ (f : Frame) (k : ℕ) where
-  result_bytes : (x : Run) → (of_run f k x).bytes ≡ f.bytes
-  unfolding of_run result_of
-  result_bytes (ended s) = refl
-  result_bytes (paused s) = refl
-  result_bytes (Run.refused r s) = refl
-
-  result_painted : (x : Run) → (of_run f k x).painted ≡ (last x).painted
-  unfolding of_run result_of
-  result_painted (ended s) = refl
-  result_painted (paused s) = refl
-  result_painted (Run.refused r s) = refl
 
 -- a run with a state to go on from, and one without
 pausing : (size : ℕ) (x : Run) {a : Saved} → Some a ≡ paused_in size x → (t : State) × (x ≡ paused t) × (a ≡ saved_of size t)
@@ -151,16 +130,12 @@ record OfTable (bpp : ℕ) (f : Frame) : Type 0 where
   good : Good (depth_of bpp)
 
 of_table : (bpp w h : ℕ) (f : Frame) (k : ℕ) → checked bpp w h ≡ accepted f k → OfTable bpp f
-unfolding size_of accept
 of_table bpp w h f k is =
-    let z = sized bpp w h (f.total * f.bytes) (ap size_of (sym is)) in
-    let d = depth_of bpp in
-    let a : accepted f k ≡ accept d w h = sym is ∙ z.checks in
-    let g : f ≡ record { bytes = d.bytes; white = d.white; black = d.black; width = w; total = w * h } = cc in
+    let g = accepted_frame bpp w h (sym is) in
     record {
-      bytes = ap (λ (x : Frame). x.bytes) g;
-      white = ap (λ (x : Frame). x.white) g;
-      good = depth_good bpp z.known;
+      bytes = ap (λ (x : Frame). x.bytes) g.1;
+      white = ap (λ (x : Frame). x.white) g.1;
+      good = depth_good bpp g.0.known;
     }
 
 -- what is known of a state that n orders led to, for a picture of `most` pixels

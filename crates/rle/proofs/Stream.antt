@@ -112,7 +112,7 @@ pub between_first : (f : Frame) (src dst : List ℕ) (n : ℕ) {s : CodeState} �
 between_first f src dst n invariant place =
     record { invariant = invariant; place = place; same = refl; rest = refl; goes = refl }
 
-pub invariant_start : (f : CodeFrame) → Invariant (frame_of f) (start_of f)
+invariant_start : (f : CodeFrame) → Invariant (frame_of f) (start_of f)
 invariant_start f = record { within = zero-le; row = zero-le; foreground = f.white; counted = zero-le }
 
 module _ {f : Frame} {src dst₀ dst : List ℕ} {whole : Run} {n : ℕ} {s : CodeState} (between : BetweenOrders f src dst₀ dst whole n s) where
@@ -148,7 +148,7 @@ module _ {f : Frame} {src dst₀ dst after : List ℕ} {whole : Run} {n : ℕ} {
   pub order_counted : r.ending ≡ Ok tt → r.state.orders ≡ s.orders + 1
   order_counted p = step-orders f (state_of f src dst s) (state_of f src after r.state) (done-is p)
 
-  pub order_paints : Bytes src → r.ending ≡ Ok tt → s.walk.pixels < r.state.walk.pixels
+  order_paints : Bytes src → r.ending ≡ Ok tt → s.walk.pixels < r.state.walk.pixels
   order_paints octets p =
       let paints = step-paints f (state_of f src dst s) (state_of f src after r.state) (more src s.walk.pos advances.inside) (bytes_drop s.walk.pos src octets) (done-is p) in
       rw (length-pixels_of f.bytes s.walk.pixels dst, length-pixels_of f.bytes r.state.walk.pixels after) at paints
@@ -283,7 +283,7 @@ unfolding decode start pixels_of
 between_start f src dst = rw sub-zero (between_first (frame_of f) src dst (length src) (invariant_start f) zero-le)
 
 -- runs with orders enough for the bytes left are one
-pub runs_enough : (f : Frame) (src dst : List ℕ) (m n : ℕ) (s : CodeState) → length src ≤ m → length src ≤ n → run f m (state_of f src dst s) ≡ run f n (state_of f src dst s)
+runs_enough : (f : Frame) (src dst : List ℕ) (m n : ℕ) (s : CodeState) → length src ≤ m → length src ≤ n → run f m (state_of f src dst s) ≡ run f n (state_of f src dst s)
 runs_enough f src dst m n s e h =
     runs_same f m n (state_of f src dst s) (run_not_paused f m (state_of f src dst s) (rw length-drop (omega arith)))
     (run_not_paused f n (state_of f src dst s) (rw length-drop (omega arith)))

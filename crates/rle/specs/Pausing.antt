@@ -11,6 +11,7 @@ use Rattle.rle.specs.declared.state.State.{State}
 use Rattle.rle.specs.declared.state.Stepped.{Stepped}
 use Rattle.rle.specs.Pauses.{resume_refusal}
 use Rattle.rle.specs.Planning.{CodeEnding}
+use Rattle.rle.specs.Reporting.{or_by}
 use Rattle.rle.specs.States.{kept_state}
 
 -- how orders that ended so, in the state s of a stream of `size` bytes, came out: they are paused where the stream goes on
@@ -35,8 +36,7 @@ abbrev pub not_resumed : ResumeError → SomeReport
 not_resumed e = record { outcome = Err e; pixels = 0; orders = 0 }
 
 abbrev pub some_report_in : Result SomeReport ResumeError → SomeReport
-some_report_in (Ok r) = r
-some_report_in (Err e) = not_resumed e
+some_report_in = or_by not_resumed
 
 -- a refusal in numbers
 pub record Numbered (e : ResumeError) (r : Numbers) : Type 0 where

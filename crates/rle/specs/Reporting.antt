@@ -23,7 +23,10 @@ summary_after e k painted completed = summary (refusal_after e) (format_after e 
 abbrev pub not_decoded : RleError → Report
 not_decoded e = record { outcome = Err e; pixels = 0; orders = 0 }
 
--- the report of a call that was refused before its stream, or was not
+-- what a call answers that was refused before its stream, or was not
+abbrev pub or_by : {A E : Type 0} → (E → A) → Result A E → A
+or_by f (Ok x) = x
+or_by f (Err e) = f e
+
 abbrev pub report_in : Result Report RleError → Report
-report_in (Ok r) = r
-report_in (Err e) = not_decoded e
+report_in = or_by not_decoded

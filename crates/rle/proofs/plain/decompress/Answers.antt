@@ -1,6 +1,7 @@
 -- `decompress` meets its contract: what was decoded, or the report of a refusal. Assumes nothing.
+use Rattle.rle.specs.Reporting.{not_decoded}
 use Rattle.rle.proofs.Calls.{unwrapped}
 use Rattle.rle.proofs.plain.decompress.Goals as goal
 
 pub returns : goal.returns
-returns c = rw (unwrapped c.decompress_by.result c.unwrap_or_else.result c.unwrap_or_else.ensures) c.decompress_by.ensures
+returns c = rw (unwrapped not_decoded c.decompress_by.result c.unwrap_or_else.result c.unwrap_or_else.ensures) c.decompress_by.ensures
