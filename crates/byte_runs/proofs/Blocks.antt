@@ -1,10 +1,10 @@
 -- Laws of blocks: a block that is read whole before it is written, and may overlap the one before it, is a run. Assumes nothing.
 use mathlib.Core.Path.{◌≡◌, refl, sym, ap, ◌∙◌}
 use mathlib.Core.List.{List}
-use Prim.Native.Nat.{ℕ, ◌+◌, ◌-◌, ◌/◌, ◌≤◌, ◌<◌}
-use native.Mathlib.Nat.{add-zero, add_assoc}
+use Prim.Native.Nat.{ℕ, ◌+◌, ◌-◌, ◌≤◌, ◌<◌}
+use native.Mathlib.Nat.{add_assoc}
 use native.Mathlib.Omega.{arith}
-use lib.ListN.{length, set, get_or}
+use lib.ListN.{length, get_or}
 use lib.Bits.{bit_xor}
 use Rattle.byte_runs.specs.Runs.{run, xored, mixed, bytes}
 use Rattle.byte_runs.proofs.Runs.{run_cong, run-before, Backward, run_over}
@@ -49,32 +49,6 @@ bytes_block w W at m i n len to new l l₀ ew et en h g fits e r =
     ∙ ap (λ (x : List ℕ). run u (at + m) n x) r
     ∙ run_over (bytes W) u at m i n l₀ (λ x y k a. refl) h (omega arith) (omega arith) (λ x k. refl)
     ∙ ap (λ (j : ℕ). run (bytes W) at j l₀) en
-
--- one byte is a block of one
-byte_over : (v : List ℕ → ℕ → ℕ) (at m i : ℕ) (l l₀ : List ℕ) → Backward v at → m ≤ i → i ≤ m + 1 → at + (m + 1) ≤ length l₀ → l ≡ run v at i l₀
-    → set l (at + m) (v l m) ≡ run v at (m + 1) l₀
-unfolding run
-byte_over v at m i l l₀ b h g fits e =
-    ap (λ (p : ℕ). set l p (v l m)) (sym (add-zero (at + m)))
-    ∙ ap (λ (j : ℕ). set l (at + m + 0) (v l j)) (sym (add-zero m))
-    ∙ ap (λ (x : List ℕ). set x (at + m + 0) (v x (m + 0))) e
-    ∙ run_over v (λ (x : List ℕ) (k : ℕ). v x (m + k)) at m i 1 l₀ b h g fits (λ x k. refl)
-
--- first, middle, last byte are one, two or three bytes
-pub few : (v : List ℕ → ℕ → ℕ) (at len p b₀ b₁ b₂ : ℕ) (l : List ℕ) → Backward v at → 1 ≤ len → len < 4 → at + len ≤ length l → p ≡ at + (len - 1)
-    → b₀ ≡ v l 0 → b₁ ≡ v (set l at b₀) (len / 2) → b₂ ≡ v (set (set l at b₀) (at + len / 2) b₁) (len - 1)
-    → set (set (set l at b₀) (at + len / 2) b₁) p b₂ ≡ run v at len l
-unfolding run
-few v at len p b₀ b₁ b₂ l b h g fits ep e₀ e₁ e₂ =
-    let en : len - 1 + 1 ≡ len = omega arith in
-    let l₁ : List ℕ = set l at b₀ in
-    let l₂ : List ℕ = set l₁ (at + len / 2) b₁ in
-    let r₁ : l₁ ≡ run v at 1 l = ap (λ (p : ℕ). set l p b₀) (sym (add-zero at)) ∙ ap (λ (x : ℕ). set l (at + 0) x) e₀ in
-    let r₂ : l₂ ≡ run v at (len / 2 + 1) l =
-    ap (λ (x : ℕ). set l₁ (at + len / 2) x) e₁ ∙ byte_over v at (len / 2) 1 l₁ l b (omega arith) (omega arith) (omega arith) r₁ in
-    ap (λ (q : ℕ). set l₂ q b₂) ep ∙ ap (λ (x : ℕ). set l₂ (at + (len - 1)) x) e₂
-    ∙ byte_over v at (len - 1) (len / 2 + 1) l₂ l b (omega arith) (omega arith) (omega arith) r₂
-    ∙ ap (λ (n : ℕ). run v at n l) en
 
 -- a block of exclusive-or, read first; w are the block's bytes, W the run's
 pub mixed_block : (w W : ℕ → ℕ) (at row m i n len to from : ℕ) (new l l₀ : List ℕ) → ((k : ℕ) → k < n → w k ≡ W (m + k)) → to ≡ at + m → from + row ≡ to → m + n ≡ len

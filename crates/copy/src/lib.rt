@@ -3,25 +3,53 @@
 // be made anew at each call.
 #![tactic(auto)]
 
-ghost use Rattle.std.specs.Prelude.{◌≡◌, ◌+◌, ◌≤◌, ◌<◌, leb, length};
+ghost use Rattle.std.specs.Prelude.{◌≡◌, ℕ, ◌+◌, ◌-◌, ◌≤◌, ◌<◌, leb, ltb, length, get_or};
+ghost use Rattle.base.specs.Picks.{pick};
 ghost use Rattle.byte_runs.specs.Runs.{run, run_where, both, there, above, taken};
 
-// Copies of more bytes go by blocks: on pictures far beyond the cache the C library's copies take 10 to 30 % more time. Parts of a
-// long run double up to less than twice as many.
+// Parts of a long run double up to less than twice as many bytes.
 const SHORT: usize = 2048;
 
-// The bytes of src in place of as many, by blocks of 64, the last one overlapping. Of `chunks_exact` the compiler makes one call of the C
-// library again. It stays a call: most copies are short.
-#[inline(never)]
-fn copy_blocks(dst: &mut [u8], src: &[u8])
-    requires { (length dst.old ≡ length src.now) × (64 ≤ length src.now) }
+// The N bytes of src from `at` on in place of as many. They are all read before one is written: of a copy from slice to slice the compiler
+// makes a test whether both overlap, and of copies one behind the other, or of any length, a call of the C library, which programs that link
+// the library would have to bring.
+#[inline(always)]
+fn copy_block<const N: usize>(dst: &mut [u8], src: &[u8], at: usize)
+    requires { (length dst.old ≡ length src.now) × (at + N ≤ length src.now) }
+    ensures same_length { length dst.new ≡ length dst.old }
+    ensures bytes { (k : ℕ) → k < length src.now → get_or dst.new k 0 ≡ pick (leb at k) (pick (ltb k (at + N)) (get_or src.now k 0) (get_or dst.old k 0)) (get_or dst.old k 0) }
+{
+    let mut t = [0; N];
+    t.copy_from_slice(&src[at..at + N]);
+    dst[at..at + N].copy_from_slice(&t);
+}
+
+// The bytes of src in place of as many, by blocks of N, the last one overlapping.
+#[inline(always)]
+fn copy_blocks<const N: usize>(dst: &mut [u8], src: &[u8])
+    requires { (length dst.old ≡ length src.now) × (0 < N) × (N ≤ length src.now) }
     ensures { dst.new ≡ src.now }
 {
-    let last = src.len() - 64;
-    for i in (0..src.len()).step_by(64) {
-        let to = i.min(last);
-        dst[to..to + 64].copy_from_slice(&src[to..to + 64]);
+    let last = src.len() - N;
+    for i in (0..last).step_by(N) {
+        copy_block::<N>(dst, src, i);
     }
+    copy_block::<N>(dst, src, last);
+}
+
+// Three bytes at most in place of as many: the first, the middle and the last.
+#[inline(always)]
+fn copy_few(dst: &mut [u8], src: &[u8])
+    requires { (length dst.old ≡ length src.now) × (length src.now < 4) }
+    ensures { dst.new ≡ src.now }
+{
+    let len = src.len();
+    if len == 0 {
+        return;
+    }
+    dst[0] = src[0];
+    dst[len / 2] = src[len / 2];
+    dst[len - 1] = src[len - 1];
 }
 
 // The bytes of src in place of as many.
@@ -30,14 +58,42 @@ fn copy_bytes(dst: &mut [u8], src: &[u8])
     requires { length dst.old ≡ length src.now }
     ensures { dst.new ≡ src.now }
 {
-    if src.len() <= SHORT {
-        dst.copy_from_slice(src);
-    } else {
-        copy_blocks(dst, src);
+    match src.len() {
+        0..4 => copy_few(dst, src),
+        4..8 => copy_blocks::<4>(dst, src),
+        8..16 => copy_blocks::<8>(dst, src),
+        _ => copy_blocks::<16>(dst, src),
     }
 }
 
-// len bytes from dst[at] on, no more than a row. By `copy_within`, which takes byte after byte, 64 pixels take 78 to 85 instructions more.
+// 16 bytes from dst[to] on, those `row` places back, read before they are written as in `copy_block`. They are read by an index: of a copy
+// from the slice that is written the compiler makes a test at each block whether the array overlaps it.
+#[inline(always)]
+fn back_block(dst: &mut [u8], to: usize, row: usize)
+    requires { (to + 16 ≤ length dst.old) × (row ≤ to) × (16 ≤ row) }
+    ensures { dst.new ≡ run (taken dst.old (to - row)) to 16 dst.old }
+{
+    let from = to - row;
+    let mut t = [0; 16];
+    for i in 0..16 {
+        t[i] = dst[from + i];
+    }
+    dst[to..to + 16].copy_from_slice(&t);
+}
+
+// len bytes from dst[at] on, by blocks, the last one overlapping. No block is longer than the row, so that each reads what is written.
+fn back_blocks(dst: &mut [u8], at: usize, len: usize, row: usize)
+    requires { (at + len ≤ length dst.old) × (row ≤ at) × (16 ≤ row) × (16 ≤ len) }
+    ensures { dst.new ≡ run (above at row) at len dst.old }
+{
+    let last = len - 16;
+    for i in (0..last).step_by(16) {
+        back_block(dst, at + i, row);
+    }
+    back_block(dst, at + last, row);
+}
+
+// len bytes from dst[at] on, no more than a row.
 fn copy_row(dst: &mut [u8], at: usize, len: usize, row: usize)
     requires { (at + len ≤ length dst.old) × (row ≤ at) × (len ≤ row) }
     ensures { dst.new ≡ run (above at row) at len dst.old }
@@ -47,7 +103,7 @@ fn copy_row(dst: &mut [u8], at: usize, len: usize, row: usize)
     copy_bytes(&mut below[..len], &above[from..from + len]);
 }
 
-// len bytes from dst[at] on. What stands from a row back on is the row over and over, so a part is copied from as many bytes back as are
+// len bytes from dst[at] on, in rows shorter than a block. What stands from a row back on is the row over and over, so a part is copied from as many bytes back as are
 // there, and the parts double while they are short, so that no `for` counts them. It stays a call: inlined, runs take 2 to 5 instructions
 // more, for registers.
 #[inline(never)]
@@ -77,24 +133,13 @@ pub fn copy_back(dst: &mut [u8], at: usize, len: usize, row: usize)
     if at < row || dst.len() < at || dst.len() - at < len {
         return;
     }
-    if len <= row.min(SHORT) {
+    if 16 <= row && 16 <= len {
+        back_blocks(dst, at, len, row);
+    } else if len <= row {
         copy_row(dst, at, len, row);
     } else {
         copy_rows(dst, at, len, row);
     }
-}
-
-// Three bytes at most: the first, the middle and the last. By copy_from_slice images of one pixel take 11 to 13 instructions more.
-fn copy_few(src: &[u8], from: usize, dst: &mut [u8], at: usize, len: usize)
-    requires { (at + len ≤ length dst.old) × (from + len ≤ length src.now) × (len < 4) }
-    ensures { dst.new ≡ run (taken src.now from) at len dst.old }
-{
-    if len == 0 {
-        return;
-    }
-    dst[at] = src[from];
-    dst[at + len / 2] = src[from + len / 2];
-    dst[at + len - 1] = src[from + len - 1];
 }
 
 // len bytes from dst[at] on, those of src from `from` on; nothing where either have no place.
@@ -102,10 +147,6 @@ pub fn copy_in(src: &[u8], from: usize, dst: &mut [u8], at: usize, len: usize)
     ensures { dst.new ≡ run_where (both (there from len src.now) (there at len dst.old)) (taken src.now from) at len dst.old }
 {
     if src.len() < from || src.len() - from < len || dst.len() < at || dst.len() - at < len {
-        return;
-    }
-    if len < 4 {
-        copy_few(src, from, dst, at, len);
         return;
     }
     copy_bytes(&mut dst[at..at + len], &src[from..from + len]);

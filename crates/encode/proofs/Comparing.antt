@@ -18,7 +18,9 @@ use Rattle.std.proofs.Math.Bool.{cond}
 use Rattle.base.specs.Picks.{pick}
 use Rattle.base.proofs.Tests.{by_test, by_less, both_true, same_test}
 use Rattle.base.proofs.Differences.{gathered}
-use Rattle.encode.specs.Bytes.{difference, same_bytes, same_start}
+use Rattle.encoding.specs.Encode.{stretch}
+use Rattle.encoding.proofs.Stretches.{stretch-is}
+use Rattle.encode.specs.Bytes.{difference, same_at, same_bytes, same_start}
 
 -- byte j of n bytes from i on
 pub part : (s : List ℕ) (i n j : ℕ) → j < n → get_or (take n (drop i s)) j 0 ≡ get_or s (i + j) 0
@@ -65,6 +67,13 @@ start-stops a b h g e =
           let s : i ≡ same_start a b = omega arith in
           rw s e)),
     )
+
+-- of two of one length they are the stretch from the first byte on
+pub start-stretch : (a b : List ℕ) → length a ≡ length b → same_start a b ≡ stretch (same_at a b) 0 (length a)
+start-stretch a b l =
+    sym
+    (stretch-is (same_at a b) 0 (length a) (same_start a b) (start_le a b) (λ i h. eq-eqb (get_or a i 0) (get_or b i 0) (start_passes a b i h))
+    (λ h. ne_eqb (get_or a (same_start a b) 0) (get_or b (same_start a b) 0) (start-stops a b h (omega arith))))
 
 -- counted from a byte among them on
 pub start-rest : (a b : List ℕ) (j : ℕ) → j ≤ same_start a b → j + same_start (drop j a) (drop j b) ≡ same_start a b

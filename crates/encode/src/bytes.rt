@@ -11,7 +11,8 @@ pub(crate) struct Compared<'a> {
 
 impl Compared<'_> {
     ghost use Rattle.std.specs.Prelude.{◌+◌, ◌≤◌, ◌<◌};
-    ghost use Rattle.encode.specs.Bytes.{difference, same_bytes, same_start};
+    ghost use Rattle.encoding.specs.Encode.{stretch};
+    ghost use Rattle.encode.specs.Bytes.{difference, same_at, same_bytes, same_start};
 
     // The differences of all bytes, gathered: 0 where there are none. It does not stop at the first one, and so is compiled to vector
     // instructions. By two slices, as `count_same`: they are parts of both, and need not have one length.
@@ -56,7 +57,8 @@ impl Compared<'_> {
 
     // The count. Most of a long one is passed in blocks.
     pub(crate) fn same_start(self) -> usize
-        ensures { result ≡ same_start self.entry.here.now self.entry.back.now }
+        ensures counted { result ≡ same_start self.entry.here.now self.entry.back.now }
+        ensures stretch { result ≡ stretch (same_at self.entry.here.now self.entry.back.now) 0 (length self.entry.here.now) }
     {
         let i = self.count_blocks::<32>(0);
         let j = self.count_blocks::<8>(i);

@@ -6,12 +6,17 @@
 // length and the stream. Each number is four bytes, low byte first.
 #![tactic(auto)]
 
-ghost use Rattle.std.specs.Prelude.{◌≡◌, ◌+◌, ◌^◌, ◌<◌, ◌≤◌, length, OnSome, IfSome};
+ghost use Rattle.std.specs.Prelude.{◌≡◌, ◌+◌, ◌^◌, ◌<◌, ◌≤◌, length, take, OnSome, IfSome, IfOk};
+ghost use Rattle.std.specs.Io.{ReadsAtMost};
+ghost use Rattle.std.specs.Io.KnownBytes.{Consumes, IsAtEnd};
 
 use picture::Numbers;
-use std::alloc::{AllocError, Global};
 use std::fs::File;
 use std::io::{self, Read};
+
+// The most bytes of the file that are read, and of a picture that is decoded. Fixed memory is this project's rule: arrays and no heap.
+const FILE_LIMIT: usize = 262144;
+const PICTURE_LIMIT: usize = 65536;
 
 // Depth and sizes, as a record has them.
 #[derive(Clone, Copy, Debug)]
@@ -132,11 +137,11 @@ fn with_sum(r: rle::Report, sum: usize) -> Answer {
     }
 }
 
-// The report of decoding into a target that is preset.
-fn decoded(alloc: Global, stream: &[u8], p: Picture) -> Result<Answer, AllocError> {
-    let mut target = vec![in alloc; 0x55u8; target_len(p)]?;
-    let report = rle::decompress(stream, &mut target, p.width, p.height, p.bpp);
-    Ok(with_sum(report, checksum(&target)))
+// The report of decoding into a target that is preset first.
+fn decoded(stream: &[u8], target: &mut [u8], p: Picture) -> Answer {
+    target.fill(0x55);
+    let report = rle::decompress(stream, target, p.width, p.height, p.bpp);
+    with_sum(report, checksum(target))
 }
 
 // The report of counting the stream's orders, which has no target of its own.
@@ -144,32 +149,56 @@ fn counted(stream: &[u8], p: Picture, sum: usize) -> Answer {
     with_sum(rle::count_orders(stream, p.width, p.height, p.bpp), sum)
 }
 
-// Whether both answers are the one that is stored.
-fn agrees(alloc: Global, record: Record) -> Result<bool, AllocError> {
+// Whether both answers are the one that is stored. A picture of more bytes than the target counts as answered otherwise.
+fn agrees(record: Record, target: &mut [u8]) -> bool {
     let Record {
         picture,
         stored,
         stream,
     } = record;
-    Ok(decoded(alloc, stream, picture)? == stored && counted(stream, picture, stored.sum) == stored)
+    match target.get_mut(..target_len(picture)) {
+        Some(target) => {
+            decoded(stream, target, picture) == stored
+                && counted(stream, picture, stored.sum) == stored
+        }
+        None => false,
+    }
 }
 
 // All records; one that is cut off counts as differing. As an iterator the records would also have to say that none comes after one that
 // is cut off.
-fn replay(alloc: Global, data: &[u8]) -> Result<Tally, AllocError> {
+fn replay(data: &[u8], target: &mut [u8]) -> Tally {
     let mut records = Records { rest: data };
     let mut tally = Tally::default();
     while !records.rest.is_empty() {
         tally.streams += 1;
         let Some(record) = records.record() else {
             tally.differ += 1;
-            return Ok(tally);
+            return tally;
         };
-        if !agrees(alloc, record)? {
+        if !agrees(record, target) {
             tally.differ += 1;
         }
     }
-    Ok(tally)
+    tally
+}
+
+// Reads until `buf` is full or the input ends, and gives how many bytes it put at the start of `buf`. `read_to_end` would read a file of
+// any length, into a Vec.
+fn read_full<R: Read>(input: &mut R, buf: &mut [u8]) -> io::Result<usize>
+    ensures in_bounds { ReadsAtMost result buf.new }
+    ensures bytes { IfOk result (λ n. Consumes (R.remaining input.old) (R.remaining input.new) (take n buf.new)) }
+    ensures to_the_end { IfOk result (λ n. n < length buf.new → IsAtEnd (R.remaining input.new)) }
+{
+    let mut done = 0;
+    while done < buf.len() {
+        let n = input.read(&mut buf[done..])?;
+        if n == 0 {
+            return Ok(done);
+        }
+        done += n;
+    }
+    Ok(done)
 }
 
 fn main(rt: HostRuntime) -> io::Result<()> {
@@ -178,8 +207,9 @@ fn main(rt: HostRuntime) -> io::Result<()> {
         Ok(file) => file,
         Err(error) => return eprintln!(rt; "{path}: {error}"),
     };
-    let mut data = Vec::new(rt.alloc());
-    file.read_to_end(&mut data)?;
-    let tally = replay(rt.alloc(), &data)?;
+    let mut data = [0u8; FILE_LIMIT];
+    let n = read_full(&mut file, &mut data)?;
+    let mut target = [0u8; PICTURE_LIMIT];
+    let tally = replay(&data[..n], &mut target);
     println!(rt; "{} streams, {} differ", tally.streams, tally.differ)
 }

@@ -54,11 +54,11 @@ hex_digit_lem b v =
     let e : b ≡ 87 + v = omega arith in
     record { code = e ∙ sym (hex_high v (omega arith)); small = omega arith })
 
-hex_decimal : (b : ℕ) → b ≤ 57 → hex_value b ≡ decimal_value b
+pub hex_decimal : (b : ℕ) → b ≤ 57 → hex_value b ≡ decimal_value b
 unfolding hex_value
 hex_decimal b h = rw (le-leb b 57 h)
 
-hex_letter : (b : ℕ) → 57 < b → hex_value b ≡ digit_among b 97 102 10
+pub hex_letter : (b : ℕ) → 57 < b → hex_value b ≡ digit_among b 97 102 10
 unfolding hex_value
 hex_letter b h = rw (lt-leb b 57 h)
 

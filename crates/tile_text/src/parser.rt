@@ -15,6 +15,26 @@ pub enum Line {
     Bad,
 }
 
+// A line by its number, for a caller that keeps one: from 0 on as they stand, 4 for the whole text, and every other number for none.
+impl From<usize> for Line {
+    ghost use Rattle.std.specs.Prelude.{◌≡◌};
+    ghost use Rattle.tile_text.specs.Parse.{line_of};
+
+    ghost from_gives = { λ n r. r ≡ line_of n };
+
+    #[tactic(auto, unfolding(crate::specs::Parse::line_of))]
+    fn from(n: usize) -> Line {
+        match n {
+            0 => Line::Width,
+            1 => Line::Height,
+            2 => Line::Bpp,
+            3 => Line::Stream,
+            4 => Line::Whole,
+            _ => Line::Bad,
+        }
+    }
+}
+
 impl Line {
     // What the line begins with.
     #[tactic(auto, unfolding(crate::specs::Parse::key_of, print::specs::Text::ascii))]
