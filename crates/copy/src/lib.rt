@@ -81,7 +81,9 @@ fn back_block(dst: &mut [u8], to: usize, row: usize)
     dst[to..to + 16].copy_from_slice(&t);
 }
 
-// len bytes from dst[at] on, by blocks, the last one overlapping. No block is longer than the row, so that each reads what is written.
+// len bytes from dst[at] on, by blocks, the last one overlapping. No block is longer than the row, so that each reads what is written. No
+// `inline(never)` here: as a call of its own it tests at each block whether the array overlaps the slice, and long runs take twice the
+// instructions.
 fn back_blocks(dst: &mut [u8], at: usize, len: usize, row: usize)
     requires { (at + len ≤ length dst.old) × (row ≤ at) × (16 ≤ row) × (16 ≤ len) }
     ensures { dst.new ≡ run (above at row) at len dst.old }
@@ -103,9 +105,9 @@ fn copy_row(dst: &mut [u8], at: usize, len: usize, row: usize)
     copy_bytes(&mut below[..len], &above[from..from + len]);
 }
 
-// len bytes from dst[at] on, in rows shorter than a block. What stands from a row back on is the row over and over, so a part is copied from as many bytes back as are
-// there, and the parts double while they are short, so that no `for` counts them. It stays a call: inlined, runs take 2 to 5 instructions
-// more, for registers.
+// len bytes from dst[at] on, in rows shorter than a block. What stands from a row back on is the row over and over, so a part is copied from
+// as many bytes back as are there, and the parts double while they are short, so that no `for` counts them. It stays a call: inlined, runs
+// take 2 to 5 instructions more, for registers.
 #[inline(never)]
 fn copy_rows(dst: &mut [u8], at: usize, len: usize, row: usize)
     requires { (at + len ≤ length dst.old) × (row ≤ at) }

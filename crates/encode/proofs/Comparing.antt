@@ -72,8 +72,8 @@ start-stops a b h g e =
 pub start-stretch : (a b : List ℕ) → length a ≡ length b → same_start a b ≡ stretch (same_at a b) 0 (length a)
 start-stretch a b l =
     sym
-    (stretch-is (same_at a b) 0 (length a) (same_start a b) (start_le a b) (λ i h. eq-eqb (get_or a i 0) (get_or b i 0) (start_passes a b i h))
-    (λ h. ne_eqb (get_or a (same_start a b) 0) (get_or b (same_start a b) 0) (start-stops a b h (omega arith))))
+    (stretch-is (same_at a b) 0 (length a) (same_start a b) (start_le a b) (λ i h. rw zero-add (eq-eqb (get_or a i 0) (get_or b i 0) (start_passes a b i h)))
+    (λ h. rw zero-add (ne_eqb (get_or a (same_start a b) 0) (get_or b (same_start a b) 0) (start-stops a b h (omega arith)))))
 
 -- counted from a byte among them on
 pub start-rest : (a b : List ℕ) (j : ℕ) → j ≤ same_start a b → j + same_start (drop j a) (drop j b) ≡ same_start a b

@@ -61,8 +61,8 @@ static LENGTHS: [u8; 256] = [
 pub(crate) fn header_kind(header: u8) -> Kind
     ensures { number_of result ≡ kind_number header }
 {
-    let at = usize::from(header);
-    KINDS[at / 16][at % 16]
+    // One place of the rows joined: of a row, and then of a place in it, an order takes five instructions more.
+    KINDS.as_flattened()[usize::from(header)]
 }
 
 // The run length that a header has itself, if it has one.

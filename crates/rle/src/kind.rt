@@ -66,9 +66,15 @@ impl Kind {
         ensures { result ≡ own_place self }
     {
         match self {
-            Kind::SpecialFgBg1 | Kind::SpecialFgBg2 | Kind::White | Kind::Black | Kind::NoOrder =>
-                Place::Nowhere,
-            _ => Place::InHeader,
+            Kind::BgRun
+            | Kind::FgRun
+            | Kind::FgBgImage
+            | Kind::ColorRun
+            | Kind::ColorImage
+            | Kind::SetFgRun
+            | Kind::SetFgBgImage
+            | Kind::DitheredRun => Place::InHeader,
+            _ => Place::Nowhere,
         }
     }
 

@@ -8,7 +8,7 @@
 //
 // The decoder tells the kinds apart itself, and plans each by its own function: if it planned by `order`, as the walk does, that would be a
 // call in both, its plan would go through memory at every order, and the walk would take half as many instructions again.
-ghost use Rattle.std.specs.Prelude.{◌≡◌, ◌⊎◌, false, ◌+◌, ◌*◌, ◌≤◌, ◌<◌, min, leb, Ok};
+ghost use Rattle.std.specs.Prelude.{◌≡◌, ◌⊎◌, false, ◌+◌, ◌-◌, ◌*◌, ◌≤◌, ◌<◌, min, leb, Ok};
 ghost use Rattle.picture.specs.Sizes.{refusal};
 ghost use Rattle.definition.specs.Plan as plan;
 ghost use Rattle.rle.specs.Kinds.{kind_in};
@@ -205,9 +205,11 @@ impl Room {
         }
     }
 
-    // Plans an order of this kind and run length.
-    pub(crate) fn order(self, kind: Kind, n: Length, left: usize) -> Plan
-        ensures { counts_in result ≡ plan.counts_of self.bytes (kind_in kind) n.pixels left self.pixels }
+    // Plans an order of this kind and run length, whose operands begin at `next` in a stream of `size` bytes. What is left is worked out for
+    // each kind that has operands: worked out before, it would be so for the others too.
+    pub(crate) fn order(self, kind: Kind, n: Length, size: usize, next: usize) -> Plan
+        requires { next ≤ size }
+        ensures { counts_in result ≡ plan.counts_of self.bytes (kind_in kind) n.pixels (size - next) self.pixels }
     {
         match kind {
             Kind::BgRun
@@ -216,10 +218,10 @@ impl Room {
             | Kind::SpecialFgBg2
             | Kind::White
             | Kind::Black => self.run(n),
-            Kind::FgBgImage | Kind::SetFgBgImage => self.fgbg_image(kind, n, left),
-            Kind::ColorRun | Kind::SetFgRun => self.pixel_run(n, left),
-            Kind::ColorImage => self.color_image(n, left),
-            Kind::DitheredRun => self.dithered_run(n, left),
+            Kind::FgBgImage | Kind::SetFgBgImage => self.fgbg_image(kind, n, size - next),
+            Kind::ColorRun | Kind::SetFgRun => self.pixel_run(n, size - next),
+            Kind::ColorImage => self.color_image(n, size - next),
+            Kind::DitheredRun => self.dithered_run(n, size - next),
             Kind::NoOrder => Plan::no_order(),
         }
     }

@@ -39,14 +39,14 @@ impl Walk {
         }
     }
 
-    // The first row ends for good at an order's start with at least one row painted, and a pending insert is dropped.
+    // The first row ends for good at an order's start with at least one row painted, and a pending insert is dropped. Both by what the row
+    // still is: with an `if` around both, a walk takes three instructions more at each order.
     pub(crate) fn end_first_row(mut self, width: usize) -> Self
         ensures { result ≡ row_ended width self }
     {
-        if self.first_row && width <= self.pixels {
-            self.insert = false;
-            self.first_row = false;
-        }
+        let still = self.first_row && self.pixels < width;
+        self.insert = self.insert && self.first_row == still;
+        self.first_row = still;
         self
     }
 
@@ -102,7 +102,13 @@ pub(crate) fn walk_orders(src: &[u8], f: Frame, from: Walk, n: usize) -> Walked
     requires { from.pixels ≤ f.total }
     ensures { WalksOrders (frame_of f) src.now from n result }
 {
-    let mut walk = from;
+    // Put together anew: taken over whole, the bytes between its fields would go along, and keep a register of the loop.
+    let mut walk = Walk {
+        pos: from.pos,
+        insert: from.insert,
+        pixels: from.pixels,
+        first_row: from.first_row,
+    };
     let mut orders = 0;
     loop {
         let o = match read_head(src, walk.pos) {
@@ -112,7 +118,7 @@ pub(crate) fn walk_orders(src: &[u8], f: Frame, from: Walk, n: usize) -> Walked
         };
         let p = f
             .room(walk.pixels)
-            .order(o.kind, o.run_length, src.len() - o.next);
+            .order(o.kind, o.run_length, src.len(), o.next);
         if let Err(e) = p.ending {
             walk.pixels += p.pixels;
             return walk.stopped(Err(e), orders);

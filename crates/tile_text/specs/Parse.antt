@@ -11,12 +11,7 @@ use Rattle.tile_text.specs.declared.stream.StreamBytes.{StreamBytes}
 
 -- the line of a number: 4, the text is read whole; from 5 on, it is no tile text
 unfoldable pub line_of : ℕ → Line
-line_of 0 = Width
-line_of 1 = Height
-line_of 2 = Bpp
-line_of 3 = Stream
-line_of 4 = Whole
-line_of _ = Bad
+line_of n = pick (eqb n 0) Width (pick (eqb n 1) Height (pick (eqb n 2) Bpp (pick (eqb n 3) Stream (pick (eqb n 4) Whole Bad))))
 
 -- what a line begins with
 unfoldable pub key_of : Line → List ℕ

@@ -95,11 +95,10 @@ pub(crate) fn order(dst: &mut [u8], o: Order<'_>) -> Stepped
     ensures { CarriesOut o.entry (kind_in o.entry.kind) dst.old dst.new result }
 {
     let s = o.state;
-    let left = o.src.len() - s.walk.pos;
     let p = o
         .frame
         .room(s.walk.pixels)
-        .order(o.kind, o.run_length, left);
+        .order(o.kind, o.run_length, o.src.len(), s.walk.pos);
     let mut t = s;
     let foreground = order_foreground(o);
     t.foreground = foreground;

@@ -1,7 +1,7 @@
 -- `same_start` meets its contract. Assumes nothing.
 use native.Mathlib.Omega.{arith}
 use Rattle.std.proofs.lemmas.List.{take_rest}
-use Rattle.encode.proofs.Comparing.{start_le, start-rest}
+use Rattle.encode.proofs.Comparing.{start_le, start-rest, start-stretch}
 use Rattle.encode.proofs.bytes.Compared.same_start.Goals as goal
 
 pub overflow_add-result : goal.overflow_add-result
@@ -15,5 +15,11 @@ overflow_add-result c =
 
 pub returns : goal.returns
 returns c =
+    let a = c.args.self in
     let n = rw (take_rest, take_rest) at c.count_same.ensures in
-    rw n (start-rest c.args.self.here.now c.args.self.back.now c.count_blocks-j.result c.count_blocks-j.ensures.same)
+    record {
+      counted = rw n (start-rest a.here.now a.back.now c.count_blocks-j.result c.count_blocks-j.ensures.same);
+      stretch =
+          rw (← (start-stretch a.here.now a.back.now a.lengths))
+          (rw n (start-rest a.here.now a.back.now c.count_blocks-j.result c.count_blocks-j.ensures.same));
+    }

@@ -14,4 +14,4 @@ pub returns : goal.returns
 returns c =
     let a = c.args in
     let e = pixel-stretch a.self.now a.row a.k a.n c.requires.0 c.requires.1 in
-    cc (e, c.bytes_of.ensures, c.bytes_of-2.ensures, c.same_start.ensures, c.whole_pixels.ensures)
+    cc (e, c.bytes_of.ensures, c.bytes_of-2.ensures, c.same_start.ensures.counted, c.whole_pixels.ensures)
