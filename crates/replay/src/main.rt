@@ -16,6 +16,7 @@ use std::io::{self, Read};
 
 // The most bytes of the file that are read, and of a picture that is decoded. Fixed memory is this project's rule: arrays and no heap.
 const FILE_LIMIT: usize = 262144;
+
 const PICTURE_LIMIT: usize = 65536;
 
 // Depth and sizes, as a record has them.

@@ -26,7 +26,7 @@ returns c =
     let a = c.args in
     let l = c.loop-i in
     elim c.loop-i-test.branch [
-      else-loop-i-test w ↦ last l.i (omega (arith, w.loop-i-test)) (omega arith) (w.dst-is ∙ l.invariant.written)
+      | else-loop-i-test w ↦ last l.i (omega (arith, w.loop-i-test)) (omega arith) (w.dst-is ∙ l.invariant.written)
       | then-loop-i-test+else-last-i-gt16 w ↦
           last (l.i + 16) (omega (arith, w.loop-i-test)) (omega (arith, w.loop-i-test))
           (w.dst-is
