@@ -67,7 +67,8 @@ impl<'a> Output<'a> {
     pub fn decimal(&mut self, n: usize)
         ensures { Prints self.old (decimal n) self.new }
     {
-        if 10 <= n {
+        let more = 10 <= n;
+        if more {
             self.decimal(n / 10);
         }
         self.byte(b'0' + (n % 10) as u8);
