@@ -1,6 +1,6 @@
-// Copies of bytes into a target, from a row back or from another slice. Place, length and row go on one by one: behind
-// `copy_back` only `copy_rows` and `copy_row` take all three, and the one calls the other with other numbers for each, so that a struct would
-// be made anew at each call.
+// Copies of bytes into a target, from a row back or from another slice. Place, length and row go on one by one: behind `copy_back`
+// only `back_blocks`, `copy_rows` and `copy_row` take all three. The first hands on another place for each block, and the second calls the third
+// with other numbers for each part, so that a struct would be made anew at each call.
 #![tactic(auto)]
 
 ghost use Rattle.std.specs.Prelude.{◌≡◌, ℕ, ◌+◌, ◌-◌, ◌≤◌, ◌<◌, leb, ltb, length, get_or};

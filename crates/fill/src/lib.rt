@@ -54,7 +54,7 @@ pub fn fill(dst: &mut [u8], d: usize, at: usize, n: usize, pixel: [u8; 3])
     match d {
         1 => store_units(dst, at, n, [a]),
         2 => store_units(dst, at, n, [a, b]),
-        _ => fill_units(dst, at, n, pixel, 32),
+        _ => fill_units(dst, at, n, pixel, 16),
     }
 }
 

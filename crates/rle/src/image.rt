@@ -36,6 +36,9 @@ impl<'a> Order<'a> {
     {
         let s = self.state;
         let p = self.frame.room(s.walk.pixels).run(self.run_length);
+        if p.pixels == 0 {
+            return s.finished(p, self.kind);
+        }
         let masks = [self.kind.special_mask()];
         s.span(self.frame, p.pixels)
             .paint_whole_masks(&masks, 0, dst, s.fg_ink());

@@ -1,7 +1,7 @@
 // Painting pixels into a target.
 //
-// Background and foreground runs and fg/bg images are painted also where they are of no pixels, since a plan that refuses its order asks
-// for none. The other orders end before they paint then.
+// Background and foreground runs and fg/bg images, but for the special ones, are painted also where they are of no pixels, since a plan
+// that refuses its order asks for none. The other orders end before they paint then.
 //
 // The run writers promise what they do at each place of a target. They are lent the part that they read and write here, so the place is
 // 0, or the row's distance.

@@ -1,8 +1,8 @@
 // Orders that paint runs, and single pixels. Each plans the order, paints the pixels that the plan says, and ends as the plan says.
 //
-// Where a plan says none, the order is refused. Orders of colors that the stream or the depth has end there, before they paint, so that
-// the compiler carries no refusal past the painting; the others leave it to their painter, which paints none then. A function that one kind
-// has for itself does not look at the order's kind, so that it is a constant there.
+// Where a plan says none, the order is refused. Orders of colors that the stream or the depth has, and special fg/bg images, end there,
+// before they paint, so that the compiler carries no refusal past the painting; the others leave it to their painter, which paints none then. A
+// function that one kind has for itself does not look at the order's kind, so that it is a constant there.
 ghost use Rattle.std.specs.Prelude.{◌≡◌, ◌⊎◌};
 ghost use Rattle.definition.specs.Orders as orders;
 ghost use Rattle.rle.specs.Kinds.{kind_in};

@@ -1,6 +1,7 @@
 -- `same_start` meets its contract. Assumes nothing.
-use native.Mathlib.Omega.{arith}
+use Rattle.std.proofs.Common.{◌≡◌, ◌+◌, ◌∙◌, arith}
 use Rattle.std.proofs.lemmas.List.{take_rest}
+use Rattle.encode.specs.Bytes.{same_start}
 use Rattle.encode.proofs.Comparing.{start_le, start-rest, start-stretch}
 use Rattle.encode.proofs.bytes.Compared.same_start.Goals as goal
 
@@ -17,9 +18,6 @@ pub returns : goal.returns
 returns c =
     let a = c.args.self in
     let n = rw (take_rest, take_rest) at c.count_same.ensures in
-    record {
-      counted = rw n (start-rest a.here.now a.back.now c.count_blocks-j.result c.count_blocks-j.ensures.same);
-      stretch =
-          rw (← (start-stretch a.here.now a.back.now a.lengths))
-          (rw n (start-rest a.here.now a.back.now c.count_blocks-j.result c.count_blocks-j.ensures.same));
-    }
+    let all : c.count_blocks-j.result + c.count_same.result ≡ same_start a.here.now a.back.now =
+    rw n (start-rest a.here.now a.back.now c.count_blocks-j.result c.count_blocks-j.ensures.same) in
+    record { counted = all; stretch = all ∙ start-stretch a.here.now a.back.now a.lengths }
