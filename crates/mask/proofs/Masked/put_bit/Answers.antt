@@ -1,8 +1,8 @@
 -- `put_bit` meets its contract: j bytes are stored, each by the mask's lowest bit. Assumes nothing.
-use Rattle.std.proofs.Common.{ℕ, zero, suc, ◌≡◌, ◌+◌, ◌*◌, ◌%◌, ◌<◌, cond, eqb, refl, sym, ap, ◌∙◌, arith, get_or, zero-mul, one-mul, bit_and}
+use Rattle.std.proofs.Common.{ℕ, zero, suc, ◌≡◌, ◌+◌, ◌*◌, ◌%◌, ◌<◌, cond, eqb, refl, sym, ap, ◌∙◌, arith, rules, tests, get_or, zero-mul, one-mul, bit_and}
 use Rattle.std.proofs.lemmas.Nat.{and_mask}
 use lib.ListN.{length-set}
-use Rattle.byte_runs.specs.Runs.{run, row_bytes}
+use Rattle.byte_runs.specs.Runs.{run, row_bytes, byte_back}
 use Rattle.byte_runs.proofs.Pixels.{row_byte}
 use Rattle.byte_runs.proofs.Runs.{store_more}
 use Rattle.mask.proofs.Masked.put_bit.Goals as goal
@@ -29,5 +29,5 @@ loop-j-preserved g c =
       long = simp length-set (omega arith);
       stored =
           store_more (row_bytes a.self.back a.self.at w) a.self.at l.j (a.self.at + l.j) _ l.dst a.dst.now refl
-          (row_byte a.self.back w a.self.at l.j _ _ l.dst c.byte_back.ensures (c.ink.ensures ∙ rw c.from.ensures (by_lowest a.m (get_or a.self.pixel l.j 0)))) l.invariant.stored;
+          (row_byte a.self.back w a.self.at l.j _ _ l.dst (c.byte_back.ensures ∙ ap (λ back. byte_back back (a.self.at + l.j) l.dst) (search (rules, tests))) (c.ink.ensures ∙ rw c.from.ensures (by_lowest a.m (get_or a.self.pixel l.j 0)))) l.invariant.stored;
     }
