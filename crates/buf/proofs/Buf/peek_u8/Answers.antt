@@ -1,5 +1,7 @@
 -- `peek_u8` meets its contract: one byte, or none. Assumes nothing.
-use mathlib.Core.Path.{sym, ◌∙◌}
+use mathlib.Core.Path.{◌≡◌, sym, ◌∙◌}
+use Rattle.std.specs.Prelude.{Ok}
+use Rattle.std.proofs.Common.{◌+◌, get_or, rules}
 use native.Mathlib.Omega.{arith}
 use native.Mathlib.Nat.{add-zero}
 use Rattle.std.proofs.lemmas.Result.{err_from_is_err_and}
@@ -11,7 +13,10 @@ pub returns-clause-value : goal.returns-clause-value
 unfolding u8_at
 returns-clause-value c =
     let r = enough _ _ _ _ (sym c.in_ok-byte.was ∙ c.peek.ensures) in
-    rw (c.widen.ensures.0, byte_read c.args.self.inner.now c.args.self.pos 1 0 (omega arith) r.1, add-zero) (read_enough 1 _ _ r.0)
+    let byte = byte_read c.args.self.inner.now c.args.self.pos 1 0 (omega arith) r.1 in
+    let is : c.widen.result ≡ get_or c.args.self.inner.now (c.args.self.pos + 0) 0 = c.widen.ensures.0 ∙ search (rules, byte) in
+    let value : Ok c.widen.result ≡ u8_at c.args.self.inner.now c.args.self.pos = rw (is, add-zero) (read_enough 1 _ _ r.0) in
+    search rules ∙ value
 
 pub returns-in_err-byte-clause-value : goal.returns-in_err-byte-clause-value
 unfolding u8_at
